@@ -1,0 +1,28 @@
+-- A refusal, its number and place (document 01, "Numbers a controller shows"), and the first of several.
+use Prim.Native.Nat.{ℕ, _+_, _-_, _*_, _^_, min}
+use mathlib.Core.Bool.{Bool, cond}
+use lib.Dec.{eqb}
+use Rattle.base.specs.declared.Fault.{Fault}
+use Rattle.base.specs.Loop.{loop}
+
+abbrev pub fault : ℕ → ℕ → Fault
+fault number place = record { number = number; place = place }
+
+-- where nothing is refused, number and place are 0
+abbrev pub clear : Fault
+clear = fault 0 0
+
+unfoldable pub unless : Bool → Fault → Fault
+unless right f = cond right clear f
+
+-- the first of two, and of f 0, f 1 .. f (count - 1)
+unfoldable pub orElse : Fault → Fault → Fault
+orElse f later = cond (eqb (f .number) 0) later f
+
+unfoldable pub first : ℕ → (ℕ → Fault) → Fault
+unfolding loop
+first count f = loop (λ r i. orElse r (f i)) clear count
+
+-- across the C boundary: number times 2 to the power 32 plus the place, a larger place given as 2 to the power 32 minus 1
+abbrev pub packed : Fault → ℕ
+packed f = f .number * 2 ^ 32 + min (f .place) (2 ^ 32 - 1)

@@ -1,0 +1,4 @@
+mod Turns
+mod Square
+mod Quick
+pub mod Rounded
