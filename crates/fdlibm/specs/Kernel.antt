@@ -3,13 +3,7 @@ use Prim.Native.Nat.{ℕ, _-_, _*_, _%_, _^_}
 use mathlib.Core.Bool.{Bool, cond}
 use lib.Dec.{ltb}
 use lib.Ieee.{Float, binary64, ofBits}
-use Rattle.float.specs.Number.{_⊕_, _⊖_, _⊗_, fromWords, highWord}
-
-abbrev pub half : Float
-half = fromWords 0x3FE00000 0
-
-abbrev pub one : Float
-one = fromWords 0x3FF00000 0
+use Rattle.float.specs.Number.{_⊕_, _⊖_, _⊗_, half64, one64, fromWords, highWord}
 
 -- fdlibm's ix: the high word without the sign
 abbrev pub IX : Float → ℕ
@@ -46,7 +40,7 @@ kernelSin x y iy =
     let v = z ⊗ x in
     let r = S2 ⊕ z ⊗ (S3 ⊕ z ⊗ (S4 ⊕ z ⊗ (S5 ⊕ z ⊗ S6))) in
     cond (ltb (IX x) 0x3e400000) x
-    (cond iy (x ⊖ ((z ⊗ (half ⊗ y ⊖ v ⊗ r) ⊖ y) ⊖ v ⊗ S1)) (x ⊕ v ⊗ (S1 ⊕ z ⊗ r)))
+    (cond iy (x ⊖ ((z ⊗ (half64 ⊗ y ⊖ v ⊗ r) ⊖ y) ⊖ v ⊗ S1)) (x ⊕ v ⊗ (S1 ⊕ z ⊗ r)))
 
 -- 4.16666666666666019037e-02
 abbrev pub C1 : Float
@@ -86,6 +80,6 @@ kernelCos x y =
     let z = x ⊗ x in
     let r = cosPolynomial z in
     let ix = IX x in
-    cond (ltb ix 0x3e400000) one
-    (cond (ltb ix 0x3FD33333) (one ⊖ (half ⊗ z ⊖ (z ⊗ r ⊖ x ⊗ y)))
-    ((one ⊖ qx ix) ⊖ ((half ⊗ z ⊖ qx ix) ⊖ (z ⊗ r ⊖ x ⊗ y))))
+    cond (ltb ix 0x3e400000) one64
+    (cond (ltb ix 0x3FD33333) (one64 ⊖ (half64 ⊗ z ⊖ (z ⊗ r ⊖ x ⊗ y)))
+    ((one64 ⊖ qx ix) ⊖ ((half64 ⊗ z ⊖ qx ix) ⊖ (z ⊗ r ⊖ x ⊗ y))))

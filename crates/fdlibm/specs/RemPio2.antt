@@ -8,8 +8,8 @@ use lib.Dec.{ltb, leb, eqb}
 use lib.ListN.{getD}
 use lib.IntN.{pos}
 use lib.Ieee.{Float, binary64, neg, toUnsigned, ofInt}
-use Rattle.float.specs.Number.{_⊕_, _⊖_, _⊗_, fromWords, highWord, absolute}
-use Rattle.fdlibm.specs.Kernel.{half, IX}
+use Rattle.float.specs.Number.{_⊕_, _⊖_, _⊗_, half64, fromWords, highWord, absolute}
+use Rattle.fdlibm.specs.Kernel.{IX}
 use Rattle.fdlibm.specs.declared.e_rem_pio2.Reduced.{Reduced}
 
 -- 6.36619772367581382433e-01
@@ -79,7 +79,7 @@ noCancellation n ix = ltb n 32 && not (eqb ix (getD npio2-hw (n - 1) 0))
 
 -- n = (int)(t*invpio2+half)
 abbrev pub nearestMultiple : Float → ℕ
-nearestMultiple t = toUnsigned 64 (t ⊗ invpio2 ⊕ half)
+nearestMultiple t = toUnsigned 64 (t ⊗ invpio2 ⊕ half64)
 
 -- from n on
 unfoldable pub firstIteration : ℕ → Float → ℕ → Reduced

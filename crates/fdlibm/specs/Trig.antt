@@ -3,13 +3,10 @@ use Prim.Native.Nat.{ℕ}
 use mathlib.Core.Bool.{Bool, true, false, cond}
 use lib.Dec.{leb, eqb}
 use lib.Ieee.{Float, neg}
-use Rattle.float.specs.Number.{_⊖_, fromWords}
+use Rattle.float.specs.Number.{_⊖_, zero64}
 use Rattle.fdlibm.specs.Kernel.{IX, kernelSin, kernelCos}
 use Rattle.fdlibm.specs.RemPio2.{remPio2}
 use Rattle.fdlibm.specs.declared.e_rem_pio2.Reduced.{Reduced}
-
-abbrev zero64 : Float
-zero64 = fromWords 0 0
 
 -- the switches on n & 3
 unfoldable pub sinReduced : Reduced → Float

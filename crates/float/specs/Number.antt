@@ -23,6 +23,15 @@ x ⊘ y = Ieee.div binary64 x y
 abbrev pub fromWords : ℕ → ℕ → Float
 fromWords hi lo = ofBits binary64 (hi * 2 ^ 32 + lo)
 
+abbrev pub zero64 : Float
+zero64 = ofBits binary64 0
+
+abbrev pub half64 : Float
+half64 = ofBits binary64 0x3FE0_0000_0000_0000
+
+abbrev pub one64 : Float
+one64 = ofBits binary64 0x3FF0_0000_0000_0000
+
 abbrev pub highWord : Float → ℕ
 highWord x = toBits binary64 x / 2 ^ 32
 
