@@ -1,6 +1,8 @@
 -- A refusal, its number and place (document 01, "Numbers a controller shows"), and the first of several.
 use Prim.Native.Nat.{ℕ, _+_, _-_, _*_, _^_, min}
 use mathlib.Core.Bool.{Bool, cond}
+use mathlib.Core.List.{List, _++_}
+use lib.ListN.{length, drop}
 use lib.Dec.{eqb}
 use Rattle.base.specs.declared.Fault.{Fault}
 use Rattle.base.specs.Loop.{loop}
@@ -22,6 +24,11 @@ orElse f later = cond (eqb (f .number) 0) later f
 unfoldable pub first : ℕ → (ℕ → Fault) → Fault
 unfolding loop
 first count f = loop (λ r i. orElse r (f i)) clear count
+
+-- document 00, condition 1: a lent list after the call has "the finished result in its named front part with the rest untouched, or, after a
+-- refusal, exactly what it held before"
+abbrev pub left : {A : Type 0} → Fault → List A → List A → List A
+left f result before = cond (eqb (f .number) 0) (result ++ drop (length result) before) before
 
 -- across the C boundary: number times 2 to the power 32 plus the place, a larger place given as 2 to the power 32 minus 1
 abbrev pub packed : Fault → ℕ

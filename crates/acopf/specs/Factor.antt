@@ -1,0 +1,30 @@
+-- Document 01, refusal 11: "non-finite constant (its number), objective constant (number of constants), start (that + 1 + column)";
+-- and the first refusal of a network, 1 to 11.
+use Prim.Native.Nat.{ℕ}
+use mathlib.Core.List.{List, _∷_, _++_, map}
+use lib.ListN.{length, getD}
+use lib.Ieee.{Float, nan, binary64, ofBits}
+use Rattle.base.specs.declared.Fault.{Fault}
+use Rattle.base.specs.Fault.{fault, unless, orElse, first}
+use Rattle.float.specs.Number.{isFinite}
+use Rattle.nl.specs.File.{modelConstants}
+use Rattle.network.specs.Fault.{faultTables}
+use Rattle.acopf.specs.Columns.{columnStart}
+use Rattle.acopf.specs.Model.{objectiveConstant, model}
+
+-- the first that is not finite; its index is the place
+unfoldable pub firstNonFinite : ℕ → List Float → Fault
+firstNonFinite number xs = first (length xs) (λ i. unless (isFinite (getD xs i nan)) (fault number i))
+
+module _ (ws : List ℕ) (xs : List Float) where
+  -- the model's constants as numbers, "each occurrence .. a new constant"
+  unfoldable pub constants64 : List Float
+  constants64 = map (ofBits binary64) (modelConstants (model ws xs))
+
+  -- 11 factor
+  unfoldable pub faultFactor : Fault
+  faultFactor = firstNonFinite 11 (constants64 ++ (objectiveConstant ws xs ∷ columnStart ws xs))
+
+  -- "Order is by number, except that 8, 9, 10 are taken branch by branch"
+  unfoldable pub networkFault : Fault
+  networkFault = orElse (faultTables ws xs) faultFactor

@@ -1,0 +1,4 @@
+pub mod Word
+pub mod Network
+pub mod Bounds
+pub mod Fault

@@ -1,0 +1,1 @@
+// The model file: expressions, and what a file stands for.

@@ -1,0 +1,77 @@
+-- Document 01, "The accepted point" and refusals 12 to 16: what the check answers, and what the lent output list then holds.
+use Prim.Native.Nat.{ℕ, _+_, _*_}
+use mathlib.Core.Bool.{cond, not}
+use mathlib.Core.List.{List, [], _∷_, _++_}
+use lib.ListN.{length, getD, replicate}
+use lib.Dec.{eqb, leb}
+use lib.Ieee.{Float, nan, binary64, ofBits, lt}
+use Rattle.base.specs.declared.Fault.{Fault}
+use Rattle.base.specs.Fault.{fault, unless, orElse, first, left}
+use Rattle.float.specs.Number.{zero64}
+use Rattle.network.specs.Network.{buses, branches, columns, vaColumn}
+use Rattle.network.specs.Bounds.{angleRight}
+use Rattle.acopf.specs.Factor.{firstNonFinite, networkFault}
+use Rattle.validate.specs.declared.Checked.{Checked}
+use Rattle.validate.specs.Outputs.{va, flows, outputs, ownObjective}
+use Rattle.validate.specs.Residuals.{residuals}
+
+-- 1e-6, the Rust's PRIMAL_TOLERANCE
+abbrev pub tiny64 : Float
+tiny64 = ofBits binary64 0x3EB0_C6F7_A0B5_ED8D
+
+-- "a table of eight, all 1e-6"
+unfoldable pub tolerances : List Float
+tolerances = replicate 8 tiny64
+
+-- what is calculated from a point
+pub record Solved : Type 0 where
+  pub outputs : List Float
+  pub objective : Float
+  pub residuals : List Float
+
+module _ (ws : List ℕ) (xs x : List Float) (solver : Float) where
+  unfoldable pub solved : Solved
+  solved =
+      let fs = flows ws xs x in
+      record { outputs = outputs ws xs x fs; objective = ownObjective ws xs x; residuals = residuals ws xs x fs solver }
+
+  -- 12 short: "output list short; its number from 1", for the one output list, of length `lent`
+  unfoldable pub faultOutput : ℕ → Fault
+  faultOutput lent = unless (leb (2 * buses ws + 4 * branches ws) lent) (fault 12 1)
+
+  -- 13 point: "wrong length (place: columns), else first non-finite column"
+  unfoldable pub faultPoint : Fault
+  faultPoint = orElse (unless (eqb (length x) (columns ws)) (fault 13 (columns ws))) (firstNonFinite 13 x)
+
+  -- 14 swing: "va outside -1,024 to 1,024; column"
+  unfoldable pub faultSwing : Fault
+  faultSwing = first (buses ws) (λ i. unless (angleRight (va ws x i)) (fault 14 (vaColumn ws i)))
+
+  -- 15 derived: "output non-finite, its index; solver objective 2n + 4m, own 2n + 4m + 1"
+  unfoldable pub faultDerived : Solved → Fault
+  faultDerived s = firstNonFinite 15 (s .outputs ++ (solver ∷ s .objective ∷ []))
+
+  -- 16 residual: "one above tolerance; first, 1-8"; "only above refuses"
+  unfoldable pub faultResidual : Solved → Fault
+  faultResidual s = first 8 (λ i. unless (not (lt (getD tolerances i nan) (getD (s .residuals) i nan))) (fault 16 (i + 1)))
+
+  -- "check 1-16"
+  unfoldable pub faultOf : ℕ → Solved → Fault
+  faultOf lent s =
+      orElse (networkFault ws xs) (orElse (faultOutput lent) (orElse faultPoint (orElse faultSwing (orElse (faultDerived s) (faultResidual s)))))
+
+  unfoldable pub checkFault : ℕ → Fault
+  checkFault lent = faultOf lent solved
+
+  -- "A refusal gives number and place, all else 0, except 16, which gives the residuals."
+  unfoldable pub checked : ℕ → Checked
+  checked lent =
+      let s = solved in
+      let f = faultOf lent s in
+      cond (eqb (f .number) 0) (record { number = 0; place = 0; objective = s .objective; residuals = s .residuals })
+      (cond (eqb (f .number) 16) (record { number = 16; place = f .place; objective = zero64; residuals = s .residuals })
+      (record { number = f .number; place = f .place; objective = zero64; residuals = replicate 8 zero64 }))
+
+  -- the output list after the call, from what it held before: the outputs in front and the rest as it was, or all as it was
+  abbrev pub outputsAfter : List Float → List Float
+  outputsAfter before = left (checkFault (length before)) (solved .outputs) before
