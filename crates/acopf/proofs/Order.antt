@@ -8,7 +8,7 @@ use lib.ListN.{length, getD}
 use lib.Dec.{eqb}
 use lib.Ieee.{Float}
 use Rattle.base.specs.declared.Fault.{Fault}
-use Rattle.base.proofs.Firsts.{Clear, Spans, Section, section, InOrder, Says, spans-unless, spans-or, spans-first, spans-wide, refusal-is-first}
+use Rattle.base.proofs.Firsts.{Clear, Spans, Section, section, InOrder, Says, Proper, or-proper, unless-proper, first-proper, spans-unless, spans-or, spans-first, spans-wide, refusal-is-first}
 use Rattle.network.specs.Fault.{faultTables}
 use Rattle.network.proofs.Order.{tables-spans}
 use Rattle.acopf.specs.Factor.{firstNonFinite, faultFactor, networkFault}
@@ -31,3 +31,8 @@ module _ (ws : List ℕ) (xs : List Float) where
   pub network-spans : Spans 1 11 (networkFault ws xs)
   unfolding networkFault
   network-spans = spans-or (spans-wide (omega arith) (omega arith) (tables-spans ws xs)) (spans-wide (omega arith) (omega arith) factor-spans)
+
+  -- a clear answer has place 0 too
+  pub network-proper : Proper (networkFault ws xs)
+  unfolding networkFault faultFactor firstNonFinite
+  network-proper = or-proper _ _ (first-proper _ _ (λ i. unless-proper _ 11 i (omega arith)))

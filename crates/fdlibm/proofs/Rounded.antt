@@ -1,49 +1,27 @@
--- root is correctly rounded, at every positive finite number.
+-- The square root is correctly rounded at every finite x >= 0 (`root-rounded`): a zero is its own root, sign and all, and of any other the root is `Nearest`,
+-- so that no double is nearer to the true root (`closest`).
 use mathlib.Core.Path.{_≡_, refl, sym, ap, subst, _∙_}
-use mathlib.Core.Bool.{Bool, true, false, _&&_}
+use mathlib.Core.Bool.{Bool, true, false, _&&_, false≢true}
+use mathlib.Core.Logic.{_⊎_, inl, inr}
 use Prim.Native.Nat.{ℕ, zero, suc, _+_, _-_, _*_, _/_, _%_, _<_, _≤_, _^_}
 use native.Mathlib.Omega.{arith}
 use native.Mathlib.Nat.{eq-of-mul-eq-mul-right, zero-mul, pow-suc, mul-one, mul-le-mul-left, mul-le-mul-right, mul-le-mul, add-mul, lt-of-mul-lt-mul-right, mul-assoc, mul-comm, mul-left-comm, mul-right-comm, mul-lt-mul-of-pos-right, mul-pos}
 use lib.Pow.{pow-add, pow-pos, pow-lt}
 use lib.Dec.{T, ltb, leb, eqb, ltb→lt, leb→le}
 use lib.IntN.{ℤ, pos, negsuc}
-use lib.Ieee.Fits.{and-l, and-r, down-pos}
+use lib.Ieee.Fits.{and-l, and-r, up-pos, down-pos}
 use lib.Ieee.Digits.{back}
-use lib.Ieee.{Float, nan, inf, fin, up, down, binary64, toBits, ofBits, ofFields, odd, fits}
-use lib.Ieee.Exact.{HasValue, odd-sign}
+use lib.Ieee.{Float, nan, inf, fin, up, down, binary64, toBits, ofBits, fits, neg, le, eq}
+use lib.Ieee.Exact.{HasValue}
 use lib.Ieee.Bits.{ofBits-toBits}
 use borrow.Author.Tests.{lt-leb, ne-eqb, eq-eqb, ltb-true, ltb-false, leb-true, leb-false, eqb-true, eqb-false}
-use Rattle.fdlibm.specs.Sqrt.{squareRoot, rootBits, rootOf, normalized, evenExponent}
+use Rattle.float.specs.Number.{isFinite, absolute}
+use Rattle.float.proofs.Patterns.{normal-value, subnormal-value, zero-bits, absolute-bits, finite-bits}
+use Rattle.fdlibm.specs.Sqrt.{squareRoot, rootOf, normalized, evenExponent}
 use Rattle.fdlibm.specs.Near.{Near, Nearest}
 use Rattle.fdlibm.proofs.Turns.{norm-up, norm-same, norm-none}
 use Rattle.fdlibm.proofs.Quick.{root-normal}
 use Rattle.fdlibm.proofs.Square.{sq-add, sq-suc, sq-odd, found, found-near, found-digits, root-of-found, evened-in}
-
--- ---- what a pattern's value is
-digits-of : (p k : ℕ) → 2 ^ 52 ≤ p → p < 2 ^ 53 → k < 2046 → ofBits binary64 (p + k * 2 ^ 52) ≡ odd 53 false p k 1074
-unfolding ofBits ofFields
-digits-of p k l h u =
-    let b = p + k * 2 ^ 52 in
-    let s = lt-leb (2 ^ 63) b (omega arith) in
-    let x : b % 2 ^ 63 / 2 ^ 52 ≡ suc k = omega arith in
-    let t : b % 2 ^ 52 ≡ p - 2 ^ 52 = omega arith in
-    let n : suc k ≡ 2047 → ⊥ = λ q. omega arith in
-    let d : 2 ^ 52 + (p - 2 ^ 52) ≡ p = omega arith in
-    rw (s, x, t, ne-eqb (suc k) 2047 n, d)
-
-small-of : (f : ℕ) → f < 2 ^ 52 → ofBits binary64 f ≡ odd 53 false f 0 1074
-unfolding ofBits ofFields
-small-of f h =
-    let s = lt-leb (2 ^ 63) f (omega arith) in
-    let x : f % 2 ^ 63 / 2 ^ 52 ≡ 0 = omega arith in
-    let t : f % 2 ^ 52 ≡ f = omega arith in
-    rw (s, x, t)
-
-read : (p k : ℕ) → 2 ^ 52 ≤ p → p < 2 ^ 53 → k < 2046 → HasValue (ofBits binary64 (p + k * 2 ^ 52)) false (p * 2 ^ k) (2 ^ 1074)
-read p k l h u = subst (λ (y : Float). HasValue y false (p * 2 ^ k) (2 ^ 1074)) (sym (digits-of p k l h u)) (odd-sign 53 false p k 1074)
-
-read-small : (f : ℕ) → f < 2 ^ 52 → HasValue (ofBits binary64 f) false (f * 2 ^ 0) (2 ^ 1074)
-read-small f h = subst (λ (y : Float). HasValue y false (f * 2 ^ 0) (2 ^ 1074)) (sym (small-of f h)) (odd-sign 53 false f 0 1074)
 
 -- ---- the root of m * 2 ^ e / 2 ^ 2096, m of 53 digits
 -- the exponent's two halves
@@ -86,7 +64,7 @@ made x X m e v l h u s =
       p = p;
       k = k;
       of-x = v;
-      of-r = subst (λ (n : ℕ). HasValue (ofBits binary64 n) false (p * Q) (2 ^ 1074)) (sym (root-of-found m e)) (read p k (g .0) (g .1) u);
+      of-r = subst (λ (n : ℕ). HasValue (ofBits binary64 n) false (p * Q) (2 ^ 1074)) (sym (root-of-found m e)) (normal-value p k (g .0) (g .1) u);
       least = g .0;
       most = g .1;
       below = subst (λ (n : ℕ). (2 * p - 1) * Q * ((2 * p - 1) * Q) < 4 * n) (sym S) (scaled (2 * p - 1) (low-side M p (let a = g .0 in omega arith) n));
@@ -141,9 +119,9 @@ record Moved (k m e : ℕ) : Type 0 where
   same : m' * 2 ^ e' ≡ m * 2 ^ e
   down : e' ≤ e
 
-moved : (k m e : ℕ) → 2 ^ 52 ≤ m * 2 ^ k → m < 2 ^ 53 → k ≤ e → Moved k m e
-moved zero m e l h u = record { m' = m; e' = e; is = norm-none m e; least = omega arith; most = h; same = refl; down = omega arith }
-moved (suc k) m e l h u = go (λ m' e' l' h' u'. moved k m' e' l' h' u') (ltb m (2 ^ 52)) refl
+moved-up : (k m e : ℕ) → 2 ^ 52 ≤ m * 2 ^ k → m < 2 ^ 53 → k ≤ e → Moved k m e
+moved-up zero m e l h u = record { m' = m; e' = e; is = norm-none m e; least = omega arith; most = h; same = refl; down = omega arith }
+moved-up (suc k) m e l h u = go (λ m' e' l' h' u'. moved-up k m' e' l' h' u') (ltb m (2 ^ 52)) refl
   where
     go : ((m e : ℕ) → 2 ^ 52 ≤ m * 2 ^ k → m < 2 ^ 53 → k ≤ e → Moved k m e) → (b : Bool) → ltb m (2 ^ 52) ≡ b → Moved (suc k) m e
     go rest true q =
@@ -180,8 +158,8 @@ root-nearest x f z h = go (ltb b (2 ^ 52)) refl
     go : (t : Bool) → ltb b (2 ^ 52) ≡ t → Nearest x (squareRoot x)
     go true q =
         let c = ltb-true b (2 ^ 52) q in
-        let v : HasValue x false (b * 2 ^ 0) (2 ^ 1074) = subst (λ (y : Float). HasValue y false (b * 2 ^ 0) (2 ^ 1074)) (ofBits-toBits binary64 x f) (read-small b c) in
-        let i = moved 52 b 1022 (omega arith) (omega arith) (omega arith) in
+        let v : HasValue x false (b * 2 ^ 0) (2 ^ 1074) = subst (λ (y : Float). HasValue y false (b * 2 ^ 0) (2 ^ 1074)) (ofBits-toBits binary64 x f) (subnormal-value b c) in
+        let i = moved-up 52 b 1022 (omega arith) (omega arith) (omega arith) in
         let s : b * 2 ^ 0 * 2 ^ 1022 ≡ i .m' * 2 ^ (i .e') = ap (λ (n : ℕ). n * 2 ^ 1022) (mul-one b) ∙ sym (i .same) in
         let u : i .e' / 2 < 2046 = omega (arith, i .down) in
         subst (λ (r : Float). Nearest x r) (sym (root-small x z c ∙ ap (λ (n : ℕ). ofBits binary64 n) (i .is))) (made x (b * 2 ^ 0) (i .m') (i .e') v (i .least) (i .most) u s)
@@ -192,7 +170,7 @@ root-nearest x f z h = go (ltb b (2 ^ 52)) refl
         let e = b / 2 ^ 52 + 1021 in
         let w : m + k * 2 ^ 52 ≡ b = omega arith in
         let y : ofBits binary64 (m + k * 2 ^ 52) ≡ x = ap (λ (n : ℕ). ofBits binary64 n) w ∙ ofBits-toBits binary64 x f in
-        let v : HasValue x false (m * 2 ^ k) (2 ^ 1074) = subst (λ (y : Float). HasValue y false (m * 2 ^ k) (2 ^ 1074)) y (read m k (omega arith) (omega arith) (omega arith)) in
+        let v : HasValue x false (m * 2 ^ k) (2 ^ 1074) = subst (λ (y : Float). HasValue y false (m * 2 ^ k) (2 ^ 1074)) y (normal-value m k (omega arith) (omega arith) (omega arith)) in
         let j : k + 1022 ≡ e = omega arith in
         let s : m * 2 ^ k * 2 ^ 1022 ≡ m * 2 ^ e = mul-assoc m (2 ^ k) (2 ^ 1022) ∙ ap (λ (n : ℕ). m * n) (sym (pow-add 2 k 1022) ∙ ap (λ (n : ℕ). 2 ^ n) j) in
         subst (λ (r : Float). Nearest x r) (sym (root-normal x c h)) (made x (m * 2 ^ k) m e v (omega arith) (omega arith) (omega arith) s)
@@ -203,8 +181,8 @@ data Grid (a j k : ℕ) : Type 0 where
   coarse : (c : ℕ) → a * 2 ^ j ≡ c * 2 ^ k → Grid a j k
   fine : a * 2 ^ j < 2 ^ 52 * 2 ^ k → Grid a j k
 
-grid : (a j k : ℕ) → a < 2 ^ 53 → Grid a j k
-grid a j k h = go (leb k j) refl
+grid-of : (a j k : ℕ) → a < 2 ^ 53 → Grid a j k
+grid-of a j k h = go (leb k j) refl
   where
     go : (b : Bool) → leb k j ≡ b → Grid a j k
     go true e =
@@ -220,7 +198,7 @@ grid a j k h = go (leb k j) refl
         fine (omega arith)
 
 under : (a j k p : ℕ) → a < 2 ^ 53 → 2 ^ 52 < p → a * 2 ^ j < p * 2 ^ k → a * 2 ^ j + 2 ^ k ≤ p * 2 ^ k
-under a j k p h l u = go (grid a j k h)
+under a j k p h l u = go (grid-of a j k h)
   where
     go : Grid a j k → a * 2 ^ j + 2 ^ k ≤ p * 2 ^ k
     go (coarse c e) =
@@ -235,7 +213,7 @@ under a j k p h l u = go (grid a j k h)
         omega arith
 
 over : (a j k p : ℕ) → a < 2 ^ 53 → 2 ^ 52 ≤ p → p * 2 ^ k < a * 2 ^ j → p * 2 ^ k + 2 ^ k ≤ a * 2 ^ j
-over a j k p h l u = go (grid a j k h)
+over a j k p h l u = go (grid-of a j k h)
   where
     go : Grid a j k → p * 2 ^ k + 2 ^ k ≤ a * 2 ^ j
     go (coarse c e) =
@@ -316,14 +294,14 @@ whole-of m (negsuc j) Y h d v =
     let t : Y * 2 ^ suc j ≡ m * 2 ^ (1074 - suc j) * 2 ^ suc j = sym v ∙ ap (λ (n : ℕ). n * 2 ^ 1074) (mul-one m) ∙ ap (λ (n : ℕ). m * n) w ∙ sym (mul-assoc m (2 ^ (1074 - suc j)) (2 ^ suc j)) in
     record { a = m; j = 1074 - suc j; small = h; is = eq-of-mul-eq-mul-right (2 ^ suc j) (pow-pos (suc j)) Y (m * 2 ^ (1074 - suc j)) t }
 
-whole : (y : Float) (Y : ℕ) → T (fits binary64 y) → HasValue y false Y (2 ^ 1074) → Whole Y
+whole-value : (y : Float) (Y : ℕ) → T (fits binary64 y) → HasValue y false Y (2 ^ 1074) → Whole Y
 unfolding fits
-whole nan Y f v = absurd v
-whole (inf s) Y f v = absurd v
-whole (fin s zero e) Y f v =
+whole-value nan Y f v = absurd v
+whole-value (inf s) Y f v = absurd v
+whole-value (fin s zero e) Y f v =
     let t : Y * down e ≡ 0 * down e = sym (v .1) ∙ ap (λ (n : ℕ). n * 2 ^ 1074) (zero-mul (up e)) ∙ zero-mul (2 ^ 1074) ∙ sym (zero-mul (down e)) in
     record { a = 0; j = 0; small = omega arith; is = eq-of-mul-eq-mul-right (down e) (down-pos e) Y 0 t }
-whole (fin s (suc m) e) Y f v =
+whole-value (fin s (suc m) e) Y f v =
     let A = eqb (suc m % 2) 1 in
     let B = ltb (suc m) (2 ^ 53) in
     let C = leb (down e) (2 ^ 1074) in
@@ -336,5 +314,62 @@ pub closest : (x r y : Float) (n : Nearest x r) (Y : ℕ) → T (fits binary64 y
     → (Y < n .p * 2 ^ n .k → (Y + n .p * 2 ^ n .k) * (Y + n .p * 2 ^ n .k) < 4 * (n .size * 2 ^ 1074))
     × (n .p * 2 ^ n .k < Y → 4 * (n .size * 2 ^ 1074) < (Y + n .p * 2 ^ n .k) * (Y + n .p * 2 ^ n .k))
 closest x r y n Y f v =
-    let w = whole y Y f v in
+    let w = whole-value y Y f v in
     (lower (n .size * 2 ^ 1074) (n .p) (n .k) Y w (n .least) (n .below) (n .edge), upper (n .size * 2 ^ 1074) (n .p) (n .k) Y w (n .least) (n .above))
+
+-- ---- every finite number that is not below zero
+
+pub root-zero : (s : Bool) (e : ℤ) → squareRoot (fin s 0 e) ≡ fin s 0 e
+unfolding squareRoot
+root-zero true e = rw (zero-bits true e)
+root-zero false e = rw (zero-bits false e)
+
+-- as the two zeros' bits have it
+pub root-plus-zero : squareRoot (ofBits binary64 0) ≡ ofBits binary64 0
+unfolding ofBits
+root-plus-zero = root-zero false (pos 0)
+
+pub root-minus-zero : squareRoot (neg (ofBits binary64 0)) ≡ neg (ofBits binary64 0)
+unfolding ofBits neg
+root-minus-zero = root-zero true (pos 0)
+
+above-bits : (m : ℕ) (e : ℤ) → T (fits binary64 (fin false (suc m) e)) → 0 < toBits binary64 (fin false (suc m) e)
+unfolding ofBits
+above-bits m e f = go (toBits binary64 x) refl
+  where
+    x : Float
+    x = fin false (suc m) e
+
+    go : (b : ℕ) → toBits binary64 x ≡ b → 0 < b
+    go zero q =
+        let p : ofBits binary64 0 ≡ x = ap (λ (n : ℕ). ofBits binary64 n) (sym q) ∙ ofBits-toBits binary64 x f in
+        let z : _≡_ {A = ℕ} 0 (suc m) = cc p in
+        absurd (omega arith)
+    go (suc b) q = omega arith
+
+finite-above : (m : ℕ) (e : ℤ) → T (fits binary64 (fin false m e)) → toBits binary64 (fin false m e) < 0x7ff0_0000_0000_0000
+unfolding isFinite absolute
+finite-above m e f =
+    let a = absolute-bits (fin false m e) f refl in
+    let b = finite-bits (fin false m e) f refl in
+    omega arith
+
+zeros-equal : (s : Bool) (e : ℤ) → eq (fin s 0 e) (ofBits binary64 0) ≡ true
+unfolding eq ofBits
+zeros-equal true e = rw (zero-mul (up e), zero-mul (down e))
+zeros-equal false e = rw (zero-mul (up e), zero-mul (down e))
+
+below-zero : (m : ℕ) (e : ℤ) → le (ofBits binary64 0) (fin true (suc m) e) ≡ false
+unfolding le ofBits
+below-zero m e =
+    let z : 0 < suc m * up e = mul-pos (omega arith) (up-pos e) in
+    let n : 0 * down e ≡ suc m * up e * 1 → ⊥ = λ q. omega arith in
+    rw (ne-eqb (0 * down e) (suc m * up e * 1) n)
+
+pub root-rounded : (x : Float) → T (fits binary64 x) → isFinite x ≡ true → le (ofBits binary64 0) x ≡ true → ((eq x (ofBits binary64 0) ≡ true) × (squareRoot x ≡ x)) ⊎ Nearest x (squareRoot x)
+unfolding isFinite
+root-rounded nan f h l = absurd (false≢true h)
+root-rounded (inf s) f h l = absurd (false≢true h)
+root-rounded (fin s zero e) f h l = inl (zeros-equal s e, root-zero s e)
+root-rounded (fin true (suc m) e) f h l = absurd (false≢true (sym (below-zero m e) ∙ l))
+root-rounded (fin false (suc m) e) f h l = inr (root-nearest (fin false (suc m) e) f (above-bits m e f) (finite-above (suc m) e f))

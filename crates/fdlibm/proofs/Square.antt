@@ -1,16 +1,15 @@
 -- The bitwise loop is the whole square root, and what is rounded from it is the nearest number.
-use mathlib.Core.Path.{_≡_, refl, sym, ap, subst, _∙_}
-use mathlib.Core.Bool.{Bool, true, false, cond}
-use mathlib.Core.Logic.{_⊎_, inl, inr, ⊎-elim}
+use mathlib.Core.Path.{_≡_, refl, ap, subst, _∙_}
+use mathlib.Core.Bool.{Bool, true, false}
 use Prim.Native.Nat.{ℕ, zero, suc, _+_, _-_, _*_, _/_, _%_, _<_, _≤_, _^_}
 use native.Mathlib.Omega.{arith}
 use native.Mathlib.Nat.{pow-suc, mul-le-mul, mul-add, add-mul, mul-comm, mul-assoc, mul-left-comm}
 use lib.Dec.{leb, ltb, eqb}
-use borrow.Author.Tests.{leb-true, leb-false, ltb-true, ltb-false, eqb-true, eqb-false}
+use borrow.Author.Tests.{leb-true, ltb-true, ltb-false, eqb-true}
 use Rattle.fdlibm.specs.declared.e_sqrt.Root.{Root}
 use Rattle.fdlibm.specs.Sqrt.{nextBit, bitByBit, start, rounded, rootOf, evenExponent}
 use Rattle.fdlibm.specs.Near.{Near}
-use Rattle.fdlibm.proofs.Turns.{Good, good-start, good-step, one-more}
+use Rattle.fdlibm.proofs.Turns.{Good, good-start, good-step}
 
 -- q is n's root, rounded down
 pub record Floor (n q : ℕ) : Type 0 where

@@ -1,7 +1,10 @@
 -- f64: the operators, one rounding each, and small functions, over the logic's account of IEEE 754.
-use Prim.Native.Nat.{ℕ, _+_, _*_, _/_, _^_}
+use Prim.Native.Nat.{ℕ, _+_, _*_, _/_, _^_, _<_}
 use mathlib.Core.Bool.{Bool, true, false, cond}
+use mathlib.Core.Path.{_≡_}
+use mathlib.Core.List.{List}
 use lib.Dec.{ltb}
+use lib.ListN.{length, getD}
 use lib.Ieee.{Float, nan, inf, fin, binary64, toBits, ofBits, lt, ne}
 use lib.Ieee as Ieee
 
@@ -40,6 +43,9 @@ unfoldable pub isFinite : Float → Bool
 isFinite nan = false
 isFinite (inf s) = false
 isFinite (fin s m e) = true
+
+abbrev pub AllFinite : List Float → Type 0
+AllFinite l = (j : ℕ) → j < length l → isFinite (getD l j nan) ≡ true
 
 -- the sign is dropped
 unfoldable pub absolute : Float → Float

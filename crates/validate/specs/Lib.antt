@@ -1,3 +1,4 @@
 pub mod Outputs
 pub mod Residuals
 pub mod Check
+pub mod Accepted
