@@ -1,5 +1,6 @@
 # make run: proves, builds and runs the main program. make test: the gate. make fmt: lays out every Rattle file.
-.PHONY: run test fmt
+# make replay: the stored answers of the original Rust, held to the definitions (a minute or two; not in the gate).
+.PHONY: run test fmt replay
 
 run:
 	@echo "no main program yet: it comes with compile"
@@ -10,3 +11,6 @@ test:
 
 fmt:
 	@rt fmt
+
+replay:
+	@tests/oracle/replay
