@@ -1,23 +1,22 @@
 -- The counts are those of the lists.
-use mathlib.Core.Path.{_≡_, refl, ap, ap₂, sym, _∙_}
+use mathlib.Core.Path.{_≡_, refl, ap, ap₂, _∙_}
 use mathlib.Core.List.{List, [], _∷_, _++_, map}
-use mathlib.Core.Bool.{Bool, true, false, cond, not, _&&_}
-use Prim.Native.Nat.{ℕ, zero, suc, _+_, _-_, _*_, _≤_, _<_}
+use Prim.Native.Nat.{ℕ, suc, _+_, _-_, _*_}
 use native.Mathlib.Omega.{arith}
 use lib.ListN.{length, length-append, length-map}
-use lib.Ieee.{Float, neg, binary64, ofBits}
-use Rattle.base.proofs.Loops.{length-table, length-keep, length-each, length-kept, tally-le}
-use Rattle.base.specs.Loop.{loop, table, each, keep, tally}
+use lib.Ieee.{Float, neg}
+use Rattle.base.proofs.Loops.{length-table, length-each, length-kept}
+use Rattle.base.specs.Loop.{table, each, keep}
 use Rattle.nl.specs.Expr.{Expr, count, column}
-use Rattle.nl.specs.File.{Model, modelConstants}
+use Rattle.nl.specs.File.{modelConstants}
 use Rattle.network.specs.Bounds.{huge64}
-use Rattle.network.specs.Network.{buses, generators, branches, references, angled, segments, curved, epigraphsBefore, columns, vmColumn}
+use Rattle.network.specs.Network.{buses, generators, branches, curved, epigraphsBefore, columns, vmColumn}
 use Rattle.acopf.specs.Build.{square, terms}
 use Rattle.acopf.specs.Columns.{vmLower, vmUpper, pgLower, pgUpper, qgLower, qgUpper, vaStart, vmStart, pgStart, qgStart, epigraphStart, columnLower, columnUpper, columnStart}
 use Rattle.acopf.specs.Factor.{constants64}
 use Rattle.acopf.specs.Model.{model}
 use Rattle.acopf.specs.Parts.{branchParts, sharedParts}
-use Rattle.acopf.specs.Rows.{Row, pBalance, qBalance, referenceRow, angleRow, rated, thermalRows, segmentRow, segmentRows, rows, rowLower, rowUpper}
+use Rattle.acopf.specs.Rows.{rows, rowLower, rowUpper}
 
 pub count-terms : (es : List Expr) → count (terms es) ≡ length es
 count-terms [] = refl

@@ -1,5 +1,5 @@
 -- A list is not refused exactly where all its numbers are finite.
-use mathlib.Core.Path.{_≡_, ap}
+use mathlib.Core.Path.{ap}
 use mathlib.Core.Logic.{_↔_}
 use mathlib.Core.List.{List}
 use Prim.Native.Nat.{ℕ, _<_}

@@ -1,3 +1,6 @@
 pub mod Counts
+pub mod Laws
+pub mod Leaves
 pub mod Order
 pub mod Finite
+pub mod Right

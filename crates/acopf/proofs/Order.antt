@@ -1,23 +1,49 @@
 -- A refusal of 1 to 11 is the first, and 11 looks at constants, objective constant and starts, in this order.
-use mathlib.Core.Path.{_≡_, refl, ap, sym, _∙_}
+use mathlib.Core.Path.{_≡_}
 use mathlib.Core.List.{List, [], _∷_, _++_}
-use mathlib.Core.Bool.{Bool, true, false, cond}
-use Prim.Native.Nat.{ℕ, zero, suc, _+_, _-_, _*_, _≤_, _<_}
+use Prim.Native.Nat.{ℕ, suc, _+_, _-_, _<_}
 use native.Mathlib.Omega.{arith}
-use lib.ListN.{length, getD}
-use lib.Dec.{eqb}
-use lib.Ieee.{Float}
-use Rattle.base.specs.declared.Fault.{Fault}
-use Rattle.base.proofs.Firsts.{Clear, Spans, Section, section, InOrder, Says, Proper, or-proper, unless-proper, first-proper, spans-unless, spans-or, spans-first, spans-wide, refusal-is-first}
+use native.Mathlib.Nat.{add-zero}
+use lib.ListN.{length, getD, List·getD-append}
+use lib.Seq.{getD-append-add}
+use lib.Ieee.{Float, nan}
+use Rattle.base.proofs.Firsts.{Clear, Spans, section, Says, Proper, or-proper, unless-proper, first-proper, spans-unless, spans-or, spans-first, spans-wide, refusal-is-first, FirstFail, first-fails}
+use Rattle.float.specs.Number.{isFinite}
 use Rattle.network.specs.Fault.{faultTables}
 use Rattle.network.proofs.Order.{tables-spans}
-use Rattle.acopf.specs.Factor.{firstNonFinite, faultFactor, networkFault}
+use Rattle.acopf.specs.Columns.{columnStart}
+use Rattle.acopf.specs.Factor.{firstNonFinite, constants64, faultFactor, networkFault}
+use Rattle.acopf.specs.Model.{objectiveConstant}
 
 pub non-finite-spans : (number : ℕ) (l : List Float) → Spans number number (firstNonFinite number l)
 unfolding firstNonFinite
 non-finite-spans number l = spans-first _ (λ i. spans-unless _ number _ (omega arith) (omega arith))
 
+-- the first that is not finite, at its index
+pub non-finite-place : (number : ℕ) (l : List Float) → 0 < number → (Clear (firstNonFinite number l) → ⊥) → FirstFail (length l) (λ i. isFinite (getD l i nan)) number (λ i. i) (firstNonFinite number l)
+unfolding firstNonFinite
+non-finite-place number l h c = first-fails (length l) (λ i. isFinite (getD l i nan)) number (λ i. i) h c
+
 module _ (ws : List ℕ) (xs : List Float) where
+  -- what 11 looks at: the constants by their numbers, then at the number of constants the objective constant, then at that + 1 + column the starts
+  abbrev pub factors : List Float
+  factors = constants64 ws xs ++ (objectiveConstant ws xs ∷ columnStart ws xs)
+
+  pub factor-place : (Clear (faultFactor ws xs) → ⊥) → FirstFail (length factors) (λ i. isFinite (getD factors i nan)) 11 (λ i. i) (faultFactor ws xs)
+  unfolding faultFactor
+  factor-place c = non-finite-place 11 factors (omega arith) c
+
+  pub factor-constant : (i : ℕ) → i < length (constants64 ws xs) → getD factors i nan ≡ getD (constants64 ws xs) i nan
+  factor-constant i l = List·getD-append (constants64 ws xs) (objectiveConstant ws xs ∷ columnStart ws xs) nan i l
+
+  pub factor-objective : getD factors (length (constants64 ws xs)) nan ≡ objectiveConstant ws xs
+  factor-objective = rw add-zero at (getD-append-add (constants64 ws xs) (objectiveConstant ws xs ∷ columnStart ws xs) 0 nan)
+
+  pub factor-start : (j : ℕ) → getD factors (length (constants64 ws xs) + 1 + j) nan ≡ getD (columnStart ws xs) j nan
+  factor-start j =
+      let e : length (constants64 ws xs) + suc j ≡ length (constants64 ws xs) + 1 + j = omega arith in
+      rw e at (getD-append-add (constants64 ws xs) (objectiveConstant ws xs ∷ columnStart ws xs) (suc j) nan)
+
   factor-spans : Spans 11 11 (faultFactor ws xs)
   unfolding faultFactor
   factor-spans = non-finite-spans 11 _

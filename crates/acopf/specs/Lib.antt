@@ -6,3 +6,5 @@ pub mod Parts
 pub mod Rows
 pub mod Model
 pub mod Factor
+pub mod Leaf
+pub mod Prepared

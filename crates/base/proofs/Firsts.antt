@@ -1,13 +1,10 @@
 -- Laws of first faults: what a clear answer means, and that a refusal is the first.
-use mathlib.Core.Path.{_≡_, refl, ap, ap₂, sym, _∙_, subst}
-use mathlib.Core.List.{List, [], _∷_, _++_, map}
-use mathlib.Core.Bool.{Bool, true, false, cond, not, _&&_, _||_, true≢false, false≢true}
-use mathlib.Core.Logic.{_↔_}
-use Prim.Native.Nat.{ℕ, zero, suc, _+_, _-_, _*_, _≤_, _<_}
+use mathlib.Core.Path.{_≡_, refl, _∙_}
+use mathlib.Core.List.{List, [], _∷_}
+use mathlib.Core.Bool.{Bool, true, false, cond}
+use Prim.Native.Nat.{ℕ, zero, suc, _-_, _≤_, _<_}
 use native.Mathlib.Omega.{arith}
-use lib.ListN.{length, getD}
-use lib.Dec.{eqb, leb, ltb}
-use lib.Ieee.{Float, nan}
+use lib.Dec.{eqb}
 use borrow.Author.Tests.{eqb-true, eqb-false, eq-eqb, ne-eqb}
 use Rattle.base.specs.declared.Fault.{Fault}
 use Rattle.base.specs.Fault.{fault, clear, unless, orElse, first}
@@ -100,6 +97,32 @@ first-is (suc n) f h = go (eqb (first n f .number) 0) refl (first-is n f)
         let c = eqb-false _ 0 e in
         let (i, l, p, q) = k c in
         (i, omega arith, or-stop (first n f) (f n) c ∙ p, q)
+
+-- of many tests with one number: the first that fails, and its place
+pub record FirstFail (n : ℕ) (test : ℕ → Bool) (number : ℕ) (place : ℕ → ℕ) (f : Fault) : Type 0 where
+  pub which : ℕ
+  pub within : which < n
+  pub fails : test which ≡ false
+  pub before : (j : ℕ) → j < which → test j ≡ true
+  pub answer : f ≡ fault number (place which)
+
+unless-false : (b : Bool) (f : Fault) → (Clear (unless b f) → ⊥) → (b ≡ false) × (unless b f ≡ f)
+unfolding unless
+unless-false true f h = absurd (h refl)
+unless-false false f h = (refl, refl)
+
+pub first-fails : (n : ℕ) (test : ℕ → Bool) (number : ℕ) (place : ℕ → ℕ) → 0 < number → (Clear (first n (λ i. unless (test i) (fault number (place i)))) → ⊥)
+    → FirstFail n test number place (first n (λ i. unless (test i) (fault number (place i))))
+first-fails n test number place z c =
+    let (i, l, e, k) = first-is n (λ i. unless (test i) (fault number (place i))) c in
+    let u = unless-false (test i) (fault number (place i)) (λ y. c (rw e y)) in
+    record {
+      which = i;
+      within = l;
+      fails = u .0;
+      before = λ j m. unless-true (test j) number (place j) z (k j m);
+      answer = e ∙ u .1;
+    }
 
 -- its number, where it refuses, is from lo to hi
 pub record Spans (lo hi : ℕ) (f : Fault) : Type 0 where

@@ -1,2 +1,4 @@
 pub mod Loops
 pub mod Firsts
+pub mod Left
+pub mod Turns

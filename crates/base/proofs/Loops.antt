@@ -1,12 +1,15 @@
 -- Laws of the counted loops: lengths, what holds of every element, and counts.
-use mathlib.Core.Path.{_≡_, refl, ap, ap₂, sym, _∙_, subst}
+use mathlib.Core.Path.{_≡_, refl, ap, _∙_}
 use mathlib.Core.List.{List, [], _∷_, _++_, map}
-use mathlib.Core.Bool.{Bool, true, false, cond, true≢false, false≢true}
+use mathlib.Core.Bool.{Bool, true, false, cond}
 use Prim.Native.Nat.{ℕ, zero, suc, _+_, _-_, _*_, _≤_, _<_}
 use native.Mathlib.Omega.{arith}
 use native.Mathlib.Nat.{add-zero, zero-add}
 use native.Mathlib.Numerals.{add-one}
-use lib.ListN.{length, length-append}
+use lib.ListN.{length, length-append, getD, List·getD-append}
+use lib.Seq.{getD-append-add}
+use lib.Dec.{ltb, eqb}
+use borrow.Author.Tests.{ltb-true, ltb-false, eqb-true, eqb-false}
 use Rattle.base.specs.Loop.{loop, table, each, keep, tally}
 
 -- ---- lengths
@@ -107,6 +110,82 @@ module _ {A : Type 0} {P : ℕ → A → Type 0} where
 pub all-map : {A : Type 0} {B : Type 0} (P : ℕ → A → Type 0) (Q : ℕ → B → Type 0) (f : A → B) → ((i : ℕ) (a : A) → P i a → Q i (f a)) → (i : ℕ) (l : List A) → AllFrom P i l → AllFrom Q i (map f l)
 all-map P Q f h i [] a = tt
 all-map P Q f h i (x ∷ xs) a = (h i x (a .0), all-map P Q f h (i + 1) xs (a .1))
+
+-- and the other way round: what holds of every element holds of each part and of each element
+module _ {A : Type 0} (P : ℕ → A → Type 0) where
+  pub all-left : (i : ℕ) (xs ys : List A) → AllFrom P i (xs ++ ys) → AllFrom P i xs
+  all-left i [] ys h = tt
+  all-left i (x ∷ xs) ys h = (h .0, all-left (i + 1) xs ys (h .1))
+
+  pub all-right : (i : ℕ) (xs ys : List A) → AllFrom P i (xs ++ ys) → AllFrom P (i + length xs) ys
+  all-right i [] ys h = rw add-zero h
+  all-right i (x ∷ xs) ys h =
+      let e : i + suc (length xs) ≡ i + 1 + length xs = omega arith in
+      rw e (all-right (i + 1) xs ys (h .1))
+
+  pub all-at : (i : ℕ) (l : List A) → AllFrom P i l → (j : ℕ) (d : A) → j < length l → P (i + j) (getD l j d)
+  all-at i [] a j d h = absurd (omega arith)
+  all-at i (x ∷ l) a zero d h = rw (add-zero i) (a .0)
+  all-at i (x ∷ l) a (suc j) d h =
+      let e : i + suc j ≡ i + 1 + j = omega arith in
+      rw e (all-at (i + 1) l (a .1) j d (omega arith))
+
+  pub all-of-each : (i n : ℕ) (f : ℕ → List A) → AllFrom P i (each n f) → (j : ℕ) → j < n → AllFrom P (i + length (each j f)) (f j)
+  unfolding loop each
+  all-of-each i zero f h j l = absurd (omega arith)
+  all-of-each i (suc n) f h j l = go (eqb j n) refl (all-of-each i n f (all-left i (each n f) (f n) h) j)
+    where
+      go : (b : Bool) → eqb j n ≡ b → (j < n → AllFrom P (i + length (each j f)) (f j)) → AllFrom P (i + length (each j f)) (f j)
+      go true e k = rw (eqb-true j n e) (all-right i (each n f) (f n) h)
+      go false e k = let ne = eqb-false j n e in k (omega arith)
+
+-- ---- the element at a place
+
+module _ {A : Type 0} where
+  pub getD-table : (n : ℕ) (f : ℕ → A) (d : A) (i : ℕ) → i < n → getD (table n f) i d ≡ f i
+  unfolding loop table
+  getD-table zero f d i l = absurd (omega arith)
+  getD-table (suc n) f d i l = go (ltb i n) refl (getD-table n f d i)
+    where
+      go : (b : Bool) → ltb i n ≡ b → (i < n → getD (table n f) i d ≡ f i) → getD (table n f ++ (f n ∷ [])) i d ≡ f i
+      go true e k = let h = ltb-true i n e in List·getD-append (table n f) (f n ∷ []) d i (omega (arith, length-table n f)) ∙ k h
+      go false e k =
+          let z : i ≡ n = omega (arith, ltb-false i n e) in
+          let y : length (table n f) + 0 ≡ n = omega (arith, length-table n f) in
+          rw z (rw y at (getD-append-add (table n f) (f n ∷ []) 0 d))
+
+-- f 0 .. f (n - 1) stand in l from place k on
+pub record Block {A : Type 0} (l : List A) (k n : ℕ) (f : ℕ → A) : Type 0 where
+  pub fits : k + n ≤ length l
+  pub its : (j : ℕ) (d : A) → j < n → getD l (k + j) d ≡ f j
+
+module _ {A : Type 0} where
+  pub block-table : (n : ℕ) (f : ℕ → A) → Block (table n f) 0 n f
+  block-table n f = record {
+    fits = omega (arith, length-table n f);
+    its = λ j d l. rw zero-add (getD-table n f d j l);
+  }
+
+  pub block-left : {a : List A} (b : List A) {k n : ℕ} {f : ℕ → A} → Block a k n f → Block (a ++ b) k n f
+  block-left {a} b {k} h = record {
+    fits = omega (arith, h .fits, length-append a b);
+    its = λ j d l. List·getD-append a b d (k + j) (omega (arith, h .fits)) ∙ h .its j d l;
+  }
+
+  pub block-right : (a : List A) {b : List A} {k n : ℕ} {f : ℕ → A} (m : ℕ) → length a + k ≡ m → Block b k n f → Block (a ++ b) m n f
+  block-right a {b} {k} m e h = record {
+    fits = omega (arith, h .fits, length-append a b);
+    its = λ j d l.
+        let p : length a + (k + j) ≡ m + j = omega arith in
+        rw p at (getD-append-add a b (k + j) d) ∙ h .its j d l;
+  }
+
+-- ---- what a loop keeps
+
+pub loop-keeps : {A : Type 0} (P : A → Type 0) (step : A → ℕ → A) (start : A) (n : ℕ) → P start → ((a : A) (i : ℕ) → i < n → P a → P (step a i)) → P (loop step start n)
+unfolding loop
+loop-keeps P step start zero h k = h
+loop-keeps P step start (suc n) h k = k _ n (omega arith) (loop-keeps P step start n h (λ a i l. k a i (omega arith)))
 
 -- ---- counts
 

@@ -1,2 +1,5 @@
 pub mod Places
 pub mod Order
+pub mod Good
+pub mod Steps
+pub mod Right

@@ -1,15 +1,14 @@
 -- A refusal of 1 to 10 is the first: all of lower numbers are clear, and the answer is its own section's. 8, 9, 10 go branch by branch.
-use mathlib.Core.Path.{_≡_, refl, ap, sym, _∙_}
-use mathlib.Core.List.{List, [], _∷_, _++_}
+use mathlib.Core.Path.{_≡_}
+use mathlib.Core.List.{List, [], _∷_}
 use mathlib.Core.Bool.{Bool, true, false, cond}
-use Prim.Native.Nat.{ℕ, zero, suc, _+_, _-_, _*_, _≤_, _<_}
+use Prim.Native.Nat.{ℕ, _-_, _<_}
 use native.Mathlib.Omega.{arith}
-use lib.ListN.{length, getD}
+use lib.ListN.{length}
 use lib.Dec.{eqb}
 use lib.Ieee.{Float}
-use Rattle.base.specs.declared.Fault.{Fault}
-use Rattle.base.specs.Fault.{fault, unless, orElse, first}
-use Rattle.base.proofs.Firsts.{Clear, Spans, Section, section, chain, InOrder, Says, spans-unless, spans-or, spans-first, spans-wide, first-is, refusal-is-first}
+use Rattle.base.specs.Fault.{fault, unless, first}
+use Rattle.base.proofs.Firsts.{Clear, Spans, Section, section, InOrder, Says, spans-unless, spans-or, spans-first, spans-wide, first-is, refusal-is-first}
 use Rattle.network.specs.Network.{branches}
 use Rattle.network.specs.Fault.{wordRight, faultWords, faultSize, blanks, faultCount, faultBlank, faultCurve, faultShift, faultBounds, faultSpread, faultRating, faultSquare, branchFault, faultBranches, faultTables}
 

@@ -1,21 +1,21 @@
 -- What refusals 1 and 2 leave: each word stands in its block, and its bus numbers are below the count of buses.
-use mathlib.Core.Path.{_≡_, refl, ap, ap₂, sym, _∙_, subst}
-use mathlib.Core.List.{List, [], _∷_, _++_}
-use mathlib.Core.Bool.{Bool, true, false, cond, not, _&&_, _||_, true≢false, false≢true}
-use Prim.Native.Nat.{ℕ, zero, suc, _+_, _-_, _*_, _/_, _%_, _^_, _≤_, _<_}
+use mathlib.Core.Path.{_≡_, refl, ap, sym, _∙_}
+use mathlib.Core.List.{List}
+use mathlib.Core.Bool.{Bool, true, false, cond, not, _&&_, false≢true}
+use Prim.Native.Nat.{ℕ, zero, suc, _+_, _-_, _^_, _≤_, _<_}
 use native.Mathlib.Omega.{arith}
-use native.Mathlib.Nat.{add-zero, zero-add}
+use native.Mathlib.Nat.{add-zero}
 use lib.ListN.{length, getD}
 use lib.Dec.{eqb, leb, ltb}
-use borrow.Author.Tests.{ltb-true, leb-true, leb-false, eqb-true, eqb-false, eq-eqb, ne-eqb, le-leb, lt-leb}
+use borrow.Author.Tests.{ltb-true, leb-true, not-true, leb-false, eqb-true, eqb-false, ne-eqb, le-leb, lt-leb}
 use Rattle.base.proofs.Firsts.{Clear, or-left, or-right, unless-true, first-clear}
 use Rattle.base.proofs.Loops.{bit, tally-le, tally-up, tally-all, tally-rest, tally-sum}
-use Rattle.base.specs.Fault.{fault, clear, unless, orElse, first}
+use Rattle.base.specs.Fault.{fault}
 use Rattle.base.specs.Loop.{loop, tally}
 use Rattle.base.specs.Word.{kindOf, loadOf}
 use Rattle.base.specs.declared.Fault.{Fault}
 use Rattle.network.specs.Fault.{wordRight, faultWords, faultSize}
-use Rattle.network.specs.Network.{kindBefore, buses, generators, branches, references, busOf, points, from, to, referred, busPlace, generatorPlace, branchPlace, referencePlace}
+use Rattle.network.specs.Network.{kindBefore, buses, generators, branches, references, busOf, points, from, to, referred, generatorPlace, branchPlace, referencePlace}
 use Rattle.network.specs.Word.{loadRight, generatorBus, generatorPoints, branchFrom, branchTo, referenceBus}
 
 pub and-left : (a b : Bool) → a && b ≡ true → a ≡ true
@@ -47,6 +47,12 @@ module _ (n w : ℕ) (h : loadRight n w ≡ true) where
   load-generator e =
       let k : ltb (loadOf w) (2 ^ 18) && ltb (generatorBus w) n && not (eqb (generatorPoints w) 1) ≡ true = rw e at h in
       ltb-true _ n (and-right (ltb (loadOf w) (2 ^ 18)) (ltb (generatorBus w) n) (and-left _ (not (eqb (generatorPoints w) 1)) k))
+
+  load-points : kindOf w ≡ 3 → generatorPoints w ≡ 1 → ⊥
+  unfolding loadRight
+  load-points e =
+      let k : ltb (loadOf w) (2 ^ 18) && ltb (generatorBus w) n && not (eqb (generatorPoints w) 1) ≡ true = rw e at h in
+      eqb-false (generatorPoints w) 1 (not-true _ (and-right (ltb (loadOf w) (2 ^ 18) && ltb (generatorBus w) n) (not (eqb (generatorPoints w) 1)) k))
 
   load-from : kindOf w ≡ 4 → branchFrom w < n
   unfolding loadRight
@@ -196,6 +202,12 @@ module _ (ws : List ℕ) (W : Clear (faultWords ws)) where
   bus-of-generator g h =
       let l : generatorPlace ws g < length ws = omega (arith, words-length) in
       omega (arith, buses-before (generatorPlace ws g) l, load-generator (kindBefore ws 2 (generatorPlace ws g)) (getD ws (generatorPlace ws g) 0) (right-load (generatorPlace ws g) l) (block 2 (generatorPlace ws g) (omega (arith, upto-two)) (omega (arith, upto-three))))
+
+  -- "0 none; 1 is a fault"
+  pub no-single-point : (g : ℕ) → g < generators ws → points ws g ≡ 1 → ⊥
+  no-single-point g h =
+      let l : generatorPlace ws g < length ws = omega (arith, words-length) in
+      load-points (kindBefore ws 2 (generatorPlace ws g)) (getD ws (generatorPlace ws g) 0) (right-load (generatorPlace ws g) l) (block 2 (generatorPlace ws g) (omega (arith, upto-two)) (omega (arith, upto-three)))
 
   pub from-bus : (b : ℕ) → b < branches ws → from ws b < buses ws
   from-bus b h =

@@ -1,2 +1,32 @@
 // The network file: its words and numbers, and refusals 1 to 10.
+mod blank;
+mod bounds;
+mod branches;
+mod curve;
+mod limits;
+mod ranges;
+mod sizes;
+mod tables;
+mod word;
+mod words;
+
 pub use base::Fault;
+pub use bounds::angle_right;
+pub use bounds::clamp_start;
+pub use bounds::finite_or;
+pub use bounds::positive_violation;
+pub use bounds::validate_bounds;
+pub use sizes::Sizes;
+pub use sizes::sizes_of;
+pub use tables::tables_fault;
+pub use word::branch_angled;
+pub use word::branch_from;
+pub use word::branch_limited;
+pub use word::branch_to;
+pub use word::bus_bounded;
+pub use word::generator_bounded;
+pub use word::generator_bus;
+pub use word::generator_points;
+pub use word::header_costs;
+pub use word::load_right;
+pub use word::reference_bus;

@@ -1,2 +1,5 @@
 pub mod Expr
 pub mod File
+pub mod Reader
+pub mod Finder
+pub mod Same

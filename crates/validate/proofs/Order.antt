@@ -1,17 +1,24 @@
 -- A refusal of the check is the first.
-use mathlib.Core.Path.{_≡_, refl, ap, sym, _∙_}
+use mathlib.Core.Path.{_≡_, ap}
 use mathlib.Core.List.{List, [], _∷_, _++_}
-use mathlib.Core.Bool.{Bool, true, false, cond}
-use Prim.Native.Nat.{ℕ, zero, suc, _+_, _-_, _*_, _≤_, _<_}
+use mathlib.Core.Bool.{not}
+use Prim.Native.Nat.{ℕ, _+_, _-_, _*_, _<_}
 use native.Mathlib.Omega.{arith}
-use lib.ListN.{length, getD}
+use lib.ListN.{length, getD, List·getD-append}
+use lib.Seq.{getD-append-add}
 use lib.Dec.{eqb}
-use lib.Ieee.{Float}
-use Rattle.base.specs.declared.Fault.{Fault}
-use Rattle.base.proofs.Firsts.{Clear, Spans, Section, section, Says, spans-unless, spans-or, spans-first, refusal-is-first}
-use Rattle.acopf.specs.Factor.{networkFault}
-use Rattle.acopf.proofs.Order.{non-finite-spans, network-spans}
-use Rattle.validate.specs.Check.{Solved, solved, faultOutput, faultPoint, faultSwing, faultDerived, faultResidual, faultOf, checkFault}
+use lib.Ieee.{Float, nan, lt}
+use borrow.Author.Tests.{eq-eqb, ne-eqb}
+use Rattle.base.specs.Fault.{fault, unless, orElse}
+use Rattle.base.proofs.Firsts.{Clear, Spans, Section, section, Says, spans-unless, spans-or, spans-first, refusal-is-first, or-go, FirstFail, first-fails, unless-clear}
+use Rattle.acopf.specs.Factor.{firstNonFinite, networkFault}
+use Rattle.acopf.proofs.Order.{non-finite-spans, non-finite-place, network-spans}
+use Rattle.float.specs.Number.{isFinite}
+use Rattle.network.specs.Bounds.{angleRight}
+use Rattle.network.specs.Network.{buses, branches, columns, vaColumn}
+use Rattle.validate.specs.Outputs.{va, ownObjective, flows, outputs}
+use Rattle.validate.proofs.Outputs.{length-outputs}
+use Rattle.validate.specs.Check.{tolerances, Solved, solved, faultOutput, faultPoint, faultSwing, faultDerived, faultResidual, faultOf, checkFault}
 
 module _ (ws : List ℕ) (xs x : List Float) (solver : Float) where
   output-spans : (lent : ℕ) → Spans 12 12 (faultOutput ws xs x solver lent)
@@ -45,3 +52,51 @@ module _ (ws : List ℕ) (xs x : List Float) (solver : Float) where
   check-refusal lent c =
       refusal-is-first 0 (section 11 (networkFault ws xs)) (checkSections lent)
       (omega arith, network-spans ws xs, (omega arith, output-spans lent, (omega arith, point-spans, (omega arith, swing-spans, (omega arith, derived-spans _, (omega arith, residual-spans _)))))) c
+
+  -- ---- the places
+
+  -- 13, at the right length: the first non-finite column
+  pub point-place : length x ≡ columns ws → (Clear (faultPoint ws xs x solver) → ⊥) → FirstFail (length x) (λ j. isFinite (getD x j nan)) 13 (λ j. j) (faultPoint ws xs x solver)
+  unfolding faultPoint
+  point-place e c =
+      let p = or-go (unless (eqb (length x) (columns ws)) (fault 13 (columns ws))) (firstNonFinite 13 x) (ap (λ f. f .number) (unless-clear (eqb (length x) (columns ws)) (fault 13 (columns ws)) (eq-eqb _ _ e))) in
+      rw p (non-finite-place 13 x (omega arith) (λ z. c (rw p z)))
+
+  -- 13, at another length: the number of columns
+  pub length-place : (length x ≡ columns ws → ⊥) → faultPoint ws xs x solver ≡ fault 13 (columns ws)
+  unfolding faultPoint orElse unless
+  length-place ne = rw (ne-eqb (length x) (columns ws) ne)
+
+  -- 14: the first va outside, its column
+  pub swing-place : (Clear (faultSwing ws xs x solver) → ⊥) → FirstFail (buses ws) (λ i. angleRight (va ws x i)) 14 (λ i. vaColumn ws i) (faultSwing ws xs x solver)
+  unfolding faultSwing
+  swing-place c = first-fails (buses ws) (λ i. angleRight (va ws x i)) 14 (λ i. vaColumn ws i) (omega arith) c
+
+  -- 15: the first non-finite output, its index; then the solver objective at 2n + 4m, and the own one after it
+  abbrev pub derived : List Float
+  derived = outputs ws xs x (flows ws xs x) ++ (solver ∷ ownObjective ws xs x ∷ [])
+
+  pub derived-place : (Clear (faultDerived ws xs x solver (solved ws xs x solver)) → ⊥)
+      → FirstFail (length derived) (λ i. isFinite (getD derived i nan)) 15 (λ i. i) (faultDerived ws xs x solver (solved ws xs x solver))
+  unfolding faultDerived solved
+  derived-place c = non-finite-place 15 derived (omega arith) c
+
+  pub derived-output : (i : ℕ) → i < 2 * buses ws + 4 * branches ws → getD derived i nan ≡ getD (outputs ws xs x (flows ws xs x)) i nan
+  derived-output i l =
+      List·getD-append (outputs ws xs x (flows ws xs x)) (solver ∷ ownObjective ws xs x ∷ []) nan i (omega (arith, length-outputs ws xs x (flows ws xs x)))
+
+  pub derived-solver : getD derived (2 * buses ws + 4 * branches ws) nan ≡ solver
+  derived-solver =
+      let e : length (outputs ws xs x (flows ws xs x)) + 0 ≡ 2 * buses ws + 4 * branches ws = omega (arith, length-outputs ws xs x (flows ws xs x)) in
+      rw e at (getD-append-add (outputs ws xs x (flows ws xs x)) (solver ∷ ownObjective ws xs x ∷ []) 0 nan)
+
+  pub derived-own : getD derived (2 * buses ws + 4 * branches ws + 1) nan ≡ ownObjective ws xs x
+  derived-own =
+      let e : length (outputs ws xs x (flows ws xs x)) + 1 ≡ 2 * buses ws + 4 * branches ws + 1 = omega (arith, length-outputs ws xs x (flows ws xs x)) in
+      rw e at (getD-append-add (outputs ws xs x (flows ws xs x)) (solver ∷ ownObjective ws xs x ∷ []) 1 nan)
+
+  -- 16: the first residual above its tolerance, from 1
+  pub residual-place : (s : Solved) → (Clear (faultResidual ws xs x solver s) → ⊥)
+      → FirstFail 8 (λ i. not (lt (getD tolerances i nan) (getD (s .residuals) i nan))) 16 (λ i. i + 1) (faultResidual ws xs x solver s)
+  unfolding faultResidual
+  residual-place s c = first-fails 8 (λ i. not (lt (getD tolerances i nan) (getD (s .residuals) i nan))) 16 (λ i. i + 1) (omega arith) c

@@ -1,0 +1,78 @@
+-- Laws for the leaves' proofs and callers: a branch's definitions over its place, and the steps of a curve's loops.
+use mathlib.Core.Path.{_≡_, refl, ap, sym, _∙_}
+use mathlib.Core.List.{List, [], _∷_, _++_}
+use mathlib.Core.Bool.{Bool, true, false}
+use Prim.Native.Nat.{ℕ, zero, suc, _<_}
+use native.Mathlib.Omega.{arith}
+use lib.Dec.{eqb}
+use lib.ListN.{length, getD, set, List·getD-append}
+use lib.Seq.{take-suc-set, getD-take, getD-append-seam}
+use lib.Ieee.{Float, nan, inf}
+use borrow.Author.Tests.{eqb-true, eqb-false}
+use Rattle.base.specs.Loop.{loop, table}
+use Rattle.base.proofs.Loops.{length-table}
+use Rattle.float.specs.Number.{_⊕_, _⊗_, maximum}
+use Rattle.network.specs.Network.{branchAt, from, to, vaColumn, vmColumn}
+use Rattle.acopf.specs.Curve.{slope, intercept, slopes, intercepts, evaluate}
+use Rattle.acopf.specs.Flow.{branchCoefficients, flow}
+use Rattle.acopf.specs.Leaf.{rowCoefficients, coefficientsAt, rowFlow, flowOf}
+use Rattle.acopf.specs.Prepared.{Prepared}
+
+-- ---- a branch
+
+module _ (ws : List ℕ) (xs : List Float) (b : ℕ) where
+  pub coefficients-at : branchCoefficients ws xs b ≡ coefficientsAt xs (branchAt ws b)
+  unfolding coefficientsAt rowCoefficients
+  coefficients-at = refl
+
+  pub flow-of : (x : List Float) → flow ws xs x b
+      ≡ flowOf xs (branchAt ws b) (getD x (vmColumn ws (from ws b)) nan) (getD x (vaColumn ws (from ws b)) nan)
+      (getD x (vmColumn ws (to ws b)) nan) (getD x (vaColumn ws (to ws b)) nan)
+  unfolding flow flowOf rowFlow
+  flow-of x = refl
+
+-- ---- a curve
+
+pub getD-table : {A : Type 0} (n i : ℕ) (f : ℕ → A) (d : A) → i < n → getD (table n f) i d ≡ f i
+unfolding loop table
+getD-table zero i f d h = absurd (omega arith)
+getD-table (suc n) i f d h = go (eqb i n) refl (getD-table n i f d)
+  where
+    go : (b : Bool) → eqb i n ≡ b → (i < n → getD (table n f) i d ≡ f i) → getD (table n f ++ (f n ∷ [])) i d ≡ f i
+    go true e k =
+        let p : i ≡ length (table n f) = omega (arith, eqb-true i n e, length-table n f) in
+        rw p (getD-append-seam (table n f) (f n) [] d) ∙ ap f (sym (eqb-true i n e))
+    go false e k =
+        let l : i < n = omega (arith, eqb-false i n e) in
+        List·getD-append (table n f) (f n ∷ []) d i (omega (arith, length-table n f)) ∙ k l
+
+module _ {xs : List Float} {at : ℕ} where
+  pub prepared-none : {l m : List Float} → Prepared xs at 0 l m
+  unfolding slopes intercepts loop table
+  prepared-none = record { slopes-are = refl; intercepts-are = refl }
+
+  pub prepared-next : {s : ℕ} {l m : List Float} → Prepared xs at s l m → s < length l → s < length m
+      → Prepared xs at (suc s) (set l s (slope xs at s)) (set m s (intercept xs at s))
+  unfolding slopes intercepts loop table
+  prepared-next {s} {l} {m} p h k =
+      record {
+        slopes-are = take-suc-set l s (slope xs at s) h ∙ ap (λ t. t ++ (slope xs at s ∷ [])) (p .slopes-are);
+        intercepts-are = take-suc-set m s (intercept xs at s) k ∙ ap (λ t. t ++ (intercept xs at s ∷ [])) (p .intercepts-are);
+      }
+
+  pub prepared-slope : {n s : ℕ} {l m : List Float} → Prepared xs at n l m → s < n → getD l s nan ≡ slope xs at s
+  unfolding slopes
+  prepared-slope {n} {s} {l} {m} p h = sym (getD-take n l s nan h) ∙ ap (λ t. getD t s nan) (p .slopes-are) ∙ getD-table n s (slope xs at) nan h
+
+  pub prepared-intercept : {n s : ℕ} {l m : List Float} → Prepared xs at n l m → s < n → getD m s nan ≡ intercept xs at s
+  unfolding intercepts
+  prepared-intercept {n} {s} {l} {m} p h =
+      sym (getD-take n m s nan h) ∙ ap (λ t. getD t s nan) (p .intercepts-are) ∙ getD-table n s (intercept xs at) nan h
+
+pub evaluate-none : (xs : List Float) (at : ℕ) (p : Float) → evaluate xs at 0 p ≡ inf true
+unfolding evaluate loop
+evaluate-none xs at p = refl
+
+pub evaluate-next : (xs : List Float) (at s : ℕ) (p : Float) → evaluate xs at (suc s) p ≡ maximum (evaluate xs at s p) (slope xs at s ⊗ p ⊕ intercept xs at s)
+unfolding evaluate loop
+evaluate-next xs at s p = refl

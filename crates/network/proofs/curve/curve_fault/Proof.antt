@@ -1,0 +1,89 @@
+use mathlib.Core.Path.{_≡_, sym, _∙_}
+use Prim.Native.Nat.{_+_, _-_, _*_, _≤_}
+use native.Mathlib.Omega.{arith}
+use lib.Ieee.{lt}
+use borrow.Author.Needs.{needs}
+use Rattle.base.proofs.Firsts.{Clear, first-proper, unless-proper}
+use Rattle.base.proofs.Turns.{first-none, first-step, first-here, first-done}
+use Rattle.base.specs.Fault.{fault, unless, first}
+use Rattle.network.specs.Fault.{faultCurve}
+use Rattle.network.specs.Network.{generatorAt, curveAt, segments, power}
+use Rattle.network.proofs.Good.{generator-zero, generator-start}
+use Rattle.network.proofs.Steps.{generator-turn, generator-room}
+use Rattle.network.proofs.curve.curve_fault.Statement.{statement}
+use Rattle.network.proofs.curve.curve_fault.Tie as tie
+
+abbrev Inv-loop : tie.InvT-loop
+Inv-loop words numbers n k at₀ g₀ at g = (g ≤ k) × (at ≡ generatorAt words g) × Clear (first g (λ j. first (segments words j) (λ s. unless (lt (power numbers (curveAt words j) s) (power numbers (curveAt words j) (s + 1))) (fault 5 (curveAt words j + 2 * (s + 1))))))
+
+abbrev μ-loop : tie.MeasureT-loop
+μ-loop words numbers n k at₀ g₀ at g = k - g
+
+mul-at : tie.Need-mul-at Inv-loop μ-loop
+mul-at c = omega (arith, c .before .before .pre .0, c .before .before .pre .3, generator-start (c .before .before .args .words .now) (c .before .before .args .k))
+
+loop-holds : tie.Need-loop-holds Inv-loop μ-loop
+loop-holds c = (omega arith, rw (c .before .before .pre .0) (sym (generator-zero _)), first-none _)
+
+add-generator-points : tie.Need-add-generator-points Inv-loop μ-loop
+add-generator-points c = search needs
+
+add-generator-points-2 : tie.Need-add-generator-points-2 Inv-loop μ-loop
+add-generator-points-2 c = search needs
+
+mul-generator-points : tie.Need-mul-generator-points Inv-loop μ-loop
+mul-generator-points c = search needs
+
+shared-slice-read-generator-points : tie.Need-shared-slice-read-generator-points Inv-loop μ-loop
+shared-slice-read-generator-points c = search needs
+
+generator-points-requires : tie.Need-generator-points-requires Inv-loop μ-loop
+generator-points-requires c κs = search needs
+
+add-curve-at : tie.Need-add-curve-at Inv-loop μ-loop
+add-curve-at c = let h = generator-room _ _ _ _ _ (c .before .before .before .before .before .before .pre .0) (c .before .before .before .loop .inv .1) (c .generator-points .ensures) _ (c .before .before .loop-test .taken) in omega (arith, c .before .before .before .before .before .before .pre)
+
+curve-at-requires : tie.Need-curve-at-requires Inv-loop μ-loop
+curve-at-requires c κs = let h = generator-room _ _ _ _ _ (c .before .before .before .before .before .before .pre .0) (c .before .before .before .loop .inv .1) (c .generator-points .ensures) _ (c .before .before .loop-test .taken) in omega (arith, c .before .before .before .before .before .before .pre)
+
+returns : tie.Need-returns Inv-loop μ-loop
+unfolding faultCurve
+returns c = rw (← c .before .before .before .before .before .before .before .before .before .pre .1) (first-here _ _ _ _ (c .before .before .before .before .before .loop-test .taken) (c .before .before .before .before .before .before .loop .inv .2) (rw (c .before .before .before .generator-points .ensures, c .before .before .before .before .before .before .before .before .before .pre .0, c .before .before .before .before .before .before .loop .inv .1) at (c .before .before .curve-at .ensures)) (c .if1 .taken))
+
+record-end-requires : tie.Need-record-end-requires Inv-loop μ-loop
+record-end-requires c κs = let h = generator-room _ _ _ _ _ (c .before .before .before .before .before .before .before .before .before .pre .0) (c .before .before .before .before .before .before .loop .inv .1) (c .before .before .before .generator-points .ensures) _ (c .before .before .before .before .before .loop-test .taken) in omega (arith, c .before .before .before .before .before .before .before .before .before .pre)
+
+add-g : tie.Need-add-g Inv-loop μ-loop
+add-g c = search needs
+
+loop-less : tie.Need-loop-less Inv-loop μ-loop
+loop-less c = search needs
+
+loop-again : tie.Need-loop-again Inv-loop μ-loop
+loop-again c = (omega arith, c .record-end .ensures ∙ generator-turn _ _ _ _ _ (c .before .before .before .before .before .before .before .before .before .before .pre .0) (c .before .before .before .before .before .before .before .loop .inv .1) (c .before .before .before .before .generator-points .ensures), first-step _ _ _ (c .before .before .before .before .before .before .before .loop .inv .2) (rw (c .before .before .before .before .generator-points .ensures, c .before .before .before .before .before .before .before .before .before .before .pre .0, c .before .before .before .before .before .before .before .loop .inv .1) at (c .before .before .before .curve-at .ensures)) (c .before .if1 .left))
+
+returns-2 : tie.Need-returns-2 Inv-loop μ-loop
+unfolding faultCurve
+returns-2 c = rw (← c .before .before .before .before .pre .1) (first-done _ _ _ (omega arith) (λ j. first-proper _ _ (λ s. unless-proper _ 5 _ (omega arith))) (c .before .loop .inv .2))
+
+pub curve-fault-spec : {M : Type 1} → statement M
+curve-fault-spec =
+    tie.close
+    (tie.spec
+    Inv-loop
+    μ-loop
+    mul-at
+    loop-holds
+    add-generator-points
+    add-generator-points-2
+    mul-generator-points
+    shared-slice-read-generator-points
+    generator-points-requires
+    add-curve-at
+    curve-at-requires
+    returns
+    record-end-requires
+    add-g
+    loop-less
+    loop-again
+    returns-2)

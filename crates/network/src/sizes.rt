@@ -1,0 +1,54 @@
+// How many words of each kind there are.
+ghost use mathlib.Core.Path.{_≡_};
+ghost use mathlib.Core.Bool.{cond};
+ghost use Prim.Native.Nat.{suc, _+_, _<_, _≤_};
+ghost use lib.Dec.{eqb};
+ghost use lib.ListN.{length};
+ghost use Rattle.base.specs.Word.{kindOf};
+ghost use Rattle.network.specs.Network.{kindBefore, buses, generators, branches, references};
+
+pub struct Sizes {
+    pub buses: usize,
+    pub generators: usize,
+    pub branches: usize,
+    pub references: usize,
+}
+
+// The count with w, where w has the kind.
+pub(crate) fn counted(count: usize, w: u32, kind: u32) -> usize
+    requires { ⌜ count < 0xffff_ffff_ffff_ffff ⌝ }
+    ensures { λ r. ⌜ (r ≡ cond (eqb (kindOf w) kind) (suc count) count) × (r ≤ count + 1) ⌝ }
+{
+    if base::kind_of(w) == kind {
+        return count + 1;
+    }
+    count
+}
+
+fn kind_count(words: &[u32], kind: u32) -> usize
+    ensures { λ r. ⌜ r ≡ kindBefore (now (words .entry)) kind (length (now (words .entry))) ⌝ }
+{
+    let mut count = 0usize;
+    let mut i = 0usize;
+    while i < words.len() {
+        count = counted(count, words[i], kind);
+        i += 1;
+    }
+    count
+}
+
+pub fn sizes_of(words: &[u32]) -> Sizes
+    ensures { λ r. ⌜ (r .buses ≡ buses (now (words .entry))) × (r .generators ≡ generators (now (words .entry)))
+        × (r .branches ≡ branches (now (words .entry))) × (r .references ≡ references (now (words .entry))) ⌝ }
+{
+    let buses = kind_count(words, 2);
+    let generators = kind_count(words, 3);
+    let branches = kind_count(words, 4);
+    let references = kind_count(words, 5);
+    Sizes {
+        buses,
+        generators,
+        branches,
+        references,
+    }
+}
