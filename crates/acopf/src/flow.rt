@@ -82,7 +82,8 @@ fn self_from(y: [f64; 2], yf: [f64; 2], tap: [f64; 2]) -> [f64; 2]
 fn transfer_from(y: [f64; 2], tap: [f64; 2]) -> [f64; 2]
     ensures { λ r. ⌜ r ≡ transferFrom y tap ⌝ }
 {
-    quotient(y, conjugate(tap))
+    let turned = conjugate(tap);
+    quotient(y, turned)
 }
 
 fn self_to(y: [f64; 2], yt: [f64; 2]) -> [f64; 2]

@@ -1,4 +1,6 @@
+use mathlib.Core.Path.{ap, _∙_}
 use borrow.Author.Needs.{needs}
+use Rattle.acopf.specs.Flow.{quotient}
 use Rattle.acopf.proofs.flow.transfer_from.Statement.{statement}
 use Rattle.acopf.proofs.flow.transfer_from.Tie as tie
 
@@ -9,7 +11,7 @@ quotient-requires : tie.Need-quotient-requires
 quotient-requires c κs = search needs
 
 returns : tie.Need-returns
-returns c = rw (c .quotient .ensures, c .before .conjugate .ensures)
+returns c = c .quotient .ensures ∙ ap (quotient (c .before .before .args .y)) (c .before .conjugate .ensures)
 
 pub transfer-from-spec : {M : Type 1} → statement M
 transfer-from-spec = tie.close (tie.spec conjugate-requires quotient-requires returns)
