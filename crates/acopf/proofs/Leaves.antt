@@ -1,16 +1,13 @@
 -- Laws for the leaves' proofs and callers: a branch's definitions over its place, and the steps of a curve's loops.
 use mathlib.Core.Path.{_≡_, refl, ap, sym, _∙_}
 use mathlib.Core.List.{List, [], _∷_, _++_}
-use mathlib.Core.Bool.{Bool, true, false}
-use Prim.Native.Nat.{ℕ, zero, suc, _<_}
-use native.Mathlib.Omega.{arith}
-use lib.Dec.{eqb}
-use lib.ListN.{length, getD, set, List·getD-append}
-use lib.Seq.{take-suc-set, getD-take, getD-append-seam}
+use mathlib.Core.Bool.{true}
+use Prim.Native.Nat.{ℕ, suc, _<_}
+use lib.ListN.{length, getD, set}
+use lib.Seq.{take-suc-set, getD-take}
 use lib.Ieee.{Float, nan, inf}
-use borrow.Author.Tests.{eqb-true, eqb-false}
 use Rattle.base.specs.Loop.{loop, table}
-use Rattle.base.proofs.Loops.{length-table}
+use Rattle.base.proofs.Loops.{getD-table}
 use Rattle.float.specs.Number.{_⊕_, _⊗_, maximum}
 use Rattle.network.specs.Network.{branchAt, from, to, vaColumn, vmColumn}
 use Rattle.acopf.specs.Curve.{slope, intercept, slopes, intercepts, evaluate}
@@ -33,19 +30,6 @@ module _ (ws : List ℕ) (xs : List Float) (b : ℕ) where
 
 -- ---- a curve
 
-pub getD-table : {A : Type 0} (n i : ℕ) (f : ℕ → A) (d : A) → i < n → getD (table n f) i d ≡ f i
-unfolding loop table
-getD-table zero i f d h = absurd (omega arith)
-getD-table (suc n) i f d h = go (eqb i n) refl (getD-table n i f d)
-  where
-    go : (b : Bool) → eqb i n ≡ b → (i < n → getD (table n f) i d ≡ f i) → getD (table n f ++ (f n ∷ [])) i d ≡ f i
-    go true e k =
-        let p : i ≡ length (table n f) = omega (arith, eqb-true i n e, length-table n f) in
-        rw p (getD-append-seam (table n f) (f n) [] d) ∙ ap f (sym (eqb-true i n e))
-    go false e k =
-        let l : i < n = omega (arith, eqb-false i n e) in
-        List·getD-append (table n f) (f n ∷ []) d i (omega (arith, length-table n f)) ∙ k l
-
 module _ {xs : List Float} {at : ℕ} where
   pub prepared-none : {l m : List Float} → Prepared xs at 0 l m
   unfolding slopes intercepts loop table
@@ -62,12 +46,12 @@ module _ {xs : List Float} {at : ℕ} where
 
   pub prepared-slope : {n s : ℕ} {l m : List Float} → Prepared xs at n l m → s < n → getD l s nan ≡ slope xs at s
   unfolding slopes
-  prepared-slope {n} {s} {l} {m} p h = sym (getD-take n l s nan h) ∙ ap (λ t. getD t s nan) (p .slopes-are) ∙ getD-table n s (slope xs at) nan h
+  prepared-slope {n} {s} {l} {m} p h = sym (getD-take n l s nan h) ∙ ap (λ t. getD t s nan) (p .slopes-are) ∙ getD-table n (slope xs at) nan s h
 
   pub prepared-intercept : {n s : ℕ} {l m : List Float} → Prepared xs at n l m → s < n → getD m s nan ≡ intercept xs at s
   unfolding intercepts
   prepared-intercept {n} {s} {l} {m} p h =
-      sym (getD-take n m s nan h) ∙ ap (λ t. getD t s nan) (p .intercepts-are) ∙ getD-table n s (intercept xs at) nan h
+      sym (getD-take n m s nan h) ∙ ap (λ t. getD t s nan) (p .intercepts-are) ∙ getD-table n (intercept xs at) nan s h
 
 pub evaluate-none : (xs : List Float) (at : ℕ) (p : Float) → evaluate xs at 0 p ≡ inf true
 unfolding evaluate loop
