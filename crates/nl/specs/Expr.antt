@@ -11,6 +11,7 @@ use Rattle.base.specs.Word.{word}
 abbrev pub loadLimit : ℕ
 loadLimit = 268435456
 
+-- 3 add, 4 subtract, 5 multiply, 6 square, 7 cosine, 8 sine, 9 sum.
 -- "An expression is a constant, by its 64 bits, a column or a shared part, by its number, or a kind from 3 to 9 over operands"
 mutual
   pub data Expr : Type 0 where

@@ -1,10 +1,12 @@
--- Document 01, refusal 17: reading from left to right, up to the first wrong word.
+-- Document 01, refusal 17: reading from left to right, up to the first wrong word. What a file stands for is not said here but in File; that the two agree is proved.
 use Prim.Native.Nat.{ℕ, zero, suc, _+_}
-use mathlib.Core.Bool.{Bool, true, false, cond}
+use mathlib.Core.Bool.{Bool, false, cond}
 use mathlib.Core.List.{List}
 use lib.Dec.{ltb, leb, eqb}
 use lib.ListN.{length, getD}
 use Rattle.base.specs.Word.{kindOf, loadOf}
+use Rattle.nl.specs.declared.Head.{Head}
+use Rattle.nl.specs.declared.Head.the-variants.{Open, Refused}
 use Rattle.nl.specs.declared.Read.{Read}
 use Rattle.nl.specs.declared.Read.the-variants.{Went, Wrong}
 use Rattle.nl.specs.declared.Parts.{Parts}
@@ -28,6 +30,15 @@ arity kind load = cond (ltb kind 3) 0 (cond (ltb kind 6) 2 (cond (ltb kind 9) 1 
 unfoldable pub uses : ℕ → ℕ
 uses kind = cond (eqb kind 0) 1 0
 
+-- the one word at `at`: "length if they run out"
+unfoldable pub readHead : List ℕ → ℕ → ℕ → ℕ → ℕ → ℕ → Head
+readHead ws constants columns named at k =
+    cond (ltb at (length ws))
+    (cond (wordOk constants columns named k (kindOf (getD ws at 0)) (loadOf (getD ws at 0)))
+    (Open (arity (kindOf (getD ws at 0)) (loadOf (getD ws at 0))) (k + uses (kindOf (getD ws at 0))))
+    Refused)
+    Refused
+
 -- after what was read: the next thing, from where it ended and with the number of the next constant; a wrong word ends it
 abbrev pub after : Read → (ℕ → ℕ → Read) → Read
 after (Went at k) f = f at k
@@ -38,16 +49,15 @@ abbrev pub many : (ℕ → ℕ → Read) → ℕ → ℕ → ℕ → Read
 many f zero at k = Went at k
 many f (suc n) at k = after (f at k) (many f n)
 
+abbrev pub opened : Head → Read → (ℕ → ℕ → Read) → Read
+opened (Open n k) wrong f = f n k
+opened Refused wrong f = wrong
+
 module _ (ws : List ℕ) (constants columns named : ℕ) where
-  -- the expression at `at`, at most so many levels deep: "A word 9 deep is wrong", "length if they run out"
+  -- the expression at `at`, at most so many levels deep: its word, then its operands. "A word 9 deep is wrong"
   unfoldable pub readExpr : ℕ → ℕ → ℕ → Read
   readExpr zero at k = Wrong at
-  readExpr (suc depth) at k =
-      cond (ltb at (length ws))
-      (cond (wordOk constants columns named k (kindOf (getD ws at 0)) (loadOf (getD ws at 0)))
-      (many (readExpr depth) (arity (kindOf (getD ws at 0)) (loadOf (getD ws at 0))) (at + 1) (k + uses (kindOf (getD ws at 0))))
-      (Wrong at))
-      (Wrong at)
+  readExpr (suc depth) at k = opened (readHead ws constants columns named at k) (Wrong at) (λ n b. many (readExpr depth) n (at + 1) b)
 
 -- the word of that kind and load stands there
 unfoldable pub isMark : List ℕ → ℕ → ℕ → ℕ → Bool
