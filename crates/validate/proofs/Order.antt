@@ -21,23 +21,23 @@ use Rattle.validate.proofs.Outputs.{length-outputs}
 use Rattle.validate.specs.Check.{tolerances, Solved, solved, faultOutput, faultPoint, faultSwing, faultDerived, faultResidual, faultOf, checkFault}
 
 module _ (ws : List ℕ) (xs x : List Float) (solver : Float) where
-  output-spans : (lent : ℕ) → Spans 12 12 (faultOutput ws xs x solver lent)
+  pub output-spans : (lent : ℕ) → Spans 12 12 (faultOutput ws xs x solver lent)
   unfolding faultOutput
   output-spans lent = spans-unless _ 12 _ (omega arith) (omega arith)
 
-  point-spans : Spans 13 13 (faultPoint ws xs x solver)
+  pub point-spans : Spans 13 13 (faultPoint ws xs x solver)
   unfolding faultPoint
   point-spans = spans-or (spans-unless _ 13 _ (omega arith) (omega arith)) (non-finite-spans 13 x)
 
-  swing-spans : Spans 14 14 (faultSwing ws xs x solver)
+  pub swing-spans : Spans 14 14 (faultSwing ws xs x solver)
   unfolding faultSwing
   swing-spans = spans-first _ (λ i. spans-unless _ 14 _ (omega arith) (omega arith))
 
-  derived-spans : (s : Solved) → Spans 15 15 (faultDerived ws xs x solver s)
+  pub derived-spans : (s : Solved) → Spans 15 15 (faultDerived ws xs x solver s)
   unfolding faultDerived
   derived-spans s = non-finite-spans 15 _
 
-  residual-spans : (s : Solved) → Spans 16 16 (faultResidual ws xs x solver s)
+  pub residual-spans : (s : Solved) → Spans 16 16 (faultResidual ws xs x solver s)
   unfolding faultResidual
   residual-spans s = spans-first _ (λ i. spans-unless _ 16 _ (omega arith) (omega arith))
 
