@@ -2,3 +2,5 @@ pub mod Loops
 pub mod Firsts
 pub mod Left
 pub mod Turns
+pub mod Scans
+pub mod Totals

@@ -3,3 +3,4 @@ pub mod Order
 pub mod Good
 pub mod Steps
 pub mod Right
+pub mod Required
