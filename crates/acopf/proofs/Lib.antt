@@ -4,9 +4,3 @@ pub mod Leaves
 pub mod Order
 pub mod Finite
 pub mod Right
-pub mod Sizes
-pub mod Factors
-pub mod Fine
-pub mod Numbers
-pub mod Steps
-pub mod Chain

@@ -8,4 +8,3 @@ pub mod Model
 pub mod Factor
 pub mod Leaf
 pub mod Prepared
-pub mod NonFinite

@@ -1,0 +1,6 @@
+pub mod Sizes
+pub mod Numbers
+pub mod Fine
+pub mod Factors
+pub mod Steps
+pub mod Chain
