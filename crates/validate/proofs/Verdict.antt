@@ -1,23 +1,47 @@
 -- The check's answer and its output list, for each way out of the check.
 use mathlib.Core.Path.{_≡_, refl, ap, sym, _∙_}
-use mathlib.Core.Bool.{Bool, true, false, cond}
+use mathlib.Core.Bool.{Bool, true, false, cond, not}
 use mathlib.Core.List.{List, [], _∷_, _++_}
 use Prim.Native.Nat.{ℕ, _+_, _*_, _≤_, _<_}
 use native.Mathlib.Omega.{arith}
-use lib.ListN.{length, drop}
+use lib.ListN.{length, drop, getD}
 use lib.Dec.{eqb}
-use lib.Ieee.{Float}
+use lib.Ieee.{Float, nan, lt}
 use borrow.Author.Tests.{eq-eqb, ne-eqb}
 use Rattle.base.specs.declared.Fault.{Fault}
-use Rattle.base.specs.Fault.{orElse, left}
+use Rattle.base.specs.Fault.{fault, unless, orElse, first}
 use Rattle.base.proofs.Firsts.{Clear, Spans, or-go, or-stop}
 use Rattle.float.specs.Number.{zero64}
-use Rattle.acopf.specs.Factor.{networkFault}
+use Rattle.acopf.specs.Factor.{firstNonFinite, networkFault}
 use Rattle.acopf.proofs.Order.{network-spans}
 use Rattle.validate.specs.declared.Checked.{Checked}
-use Rattle.validate.specs.Check.{Solved, solved, faultOutput, faultPoint, faultSwing, faultDerived, faultResidual, faultOf, checkFault, checked, outputsAfter}
+use Rattle.validate.specs.Check.{tolerances, Solved, solved, faultOutput, faultPoint, faultSwing, faultDerived, faultResidual, faultOf, checkFault, checked, outputsAfter}
+use Rattle.network.specs.Network.{buses, branches}
+use Rattle.validate.specs.Agree.{Agrees}
+use Rattle.validate.specs.Outputs.{withdrawn, pInjection, qInjection, ownObjective, flows, outputs, pFrom, qFrom, pTo, qTo}
+use Rattle.validate.specs.Residuals.{pBalance, qBalance, residuals}
+use Rattle.validate.specs.Scratch.{FlowsAre, listed}
+use Rattle.validate.specs.Derived.{Derived}
 use Rattle.validate.specs.Verdict.{Cleared, refusal}
+use Rattle.validate.proofs.NonFinite.{derived-is}
+use Rattle.validate.proofs.Scratch.{listed-outputs, outputs-left}
 use Rattle.validate.proofs.Order.{output-spans, point-spans, swing-spans, derived-spans, residual-spans}
+
+-- the balances, from the injections, by what `balances` says of its list
+pub derived-are : (ws : List ℕ) (xs x : List Float) (n m : ℕ) (pf qf pt qt p q p′ q′ : List Float) (own : Float) → n ≡ buses ws → m ≡ branches ws
+    → FlowsAre ws xs x (branches ws) pf qf pt qt → Agrees (buses ws) (pInjection ws xs x) p → Agrees (buses ws) (qInjection ws xs x) q → own ≡ ownObjective ws xs x
+    → ((atFrom atTo start : ℕ → Float) → Agrees m atFrom pf → Agrees m atTo pt → Agrees n start p → Agrees n (λ i. withdrawn ws i atFrom atTo (start i)) p′)
+    → ((atFrom atTo start : ℕ → Float) → Agrees m atFrom qf → Agrees m atTo qt → Agrees n start q → Agrees n (λ i. withdrawn ws i atFrom atTo (start i)) q′)
+    → Derived ws xs x pf qf pt qt p′ q′ own
+unfolding pBalance qBalance
+derived-are ws xs x n m pf qf pt qt p q p′ q′ own en em F a b o f g =
+    let F′ = flows ws xs x in
+    record {
+      flows-are = F;
+      active = λ i l. f (pFrom F′) (pTo F′) (pInjection ws xs x) (λ j k. F .p-from j (omega arith)) (λ j k. F .p-to j (omega arith)) (λ j k. a j (omega arith)) i (omega arith);
+      reactive = λ i l. g (qFrom F′) (qTo F′) (qInjection ws xs x) (λ j k. F .q-from j (omega arith)) (λ j k. F .q-to j (omega arith)) (λ j k. b j (omega arith)) i (omega arith);
+      objective = o;
+    }
 
 module _ (ws : List ℕ) (xs x : List Float) (solver : Float) where
   abbrev S : Solved
@@ -87,3 +111,80 @@ module _ (ws : List ℕ) (xs x : List Float) (solver : Float) where
   accepted-list before f result size C d e n q z =
       let k : f ≡ checkFault ws xs x solver (length before) = e ∙ by-residual (length before) C d in
       rw (← k, eq-eqb (f .number) 0 n, z, q)
+
+-- ---- the three ways out, from the scratch lists
+
+-- what the scratch lists hold, of the lengths that they have
+pub record Held (ws : List ℕ) (xs x : List Float) (n m : ℕ) (p q pf qf pt qt : List Float) (own : Float) : Type 0 where
+  pub buses-are : n ≡ buses ws
+  pub branches-are : m ≡ branches ws
+  pub p-long : n ≤ length p
+  pub q-long : n ≤ length q
+  pub pf-long : m ≤ length pf
+  pub qf-long : m ≤ length qf
+  pub pt-long : m ≤ length pt
+  pub qt-long : m ≤ length qt
+  pub p-are : Agrees (buses ws) (pInjection ws xs x) p
+  pub q-are : Agrees (buses ws) (qInjection ws xs x) q
+  pub flows-are : FlowsAre ws xs x (branches ws) pf qf pt qt
+  pub own-is : own ≡ ownObjective ws xs x
+
+module _ {ws : List ℕ} {xs x : List Float} {n m : ℕ} {p q pf qf pt qt : List Float} {own : Float} (H : Held ws xs x n m p q pf qf pt qt own) (solver : Float) (before : List Float)
+    (C : Cleared ws xs x solver (length before)) (d : Fault) (is : d ≡ firstNonFinite 15 (listed n m p q pf qf pt qt ++ (solver ∷ own ∷ []))) where
+  outputs-are : listed n m p q pf qf pt qt ≡ outputs ws xs x (flows ws xs x)
+  outputs-are =
+      listed-outputs ws xs x n m p q pf qf pt qt (H .buses-are) (H .branches-are) (H .p-long) (H .q-long) (H .pf-long) (H .qf-long) (H .pt-long) (H .qt-long) (H .p-are) (H .q-are) (H .flows-are)
+
+  derived : d ≡ faultDerived ws xs x solver (solved ws xs x solver)
+  derived = is ∙ derived-is ws xs x solver own _ outputs-are (H .own-is)
+
+  derived-clear : d .number ≡ 0 → Clear (faultDerived ws xs x solver (solved ws xs x solver))
+  derived-clear z = ap (λ f. f .number) (sym derived) ∙ z
+
+  -- 15
+  pub says-15 : (r : Checked) → r ≡ refusal d → (d .number ≡ 0 → ⊥) → (r ≡ checked ws xs x solver (length before)) × (before ≡ outputsAfter ws xs x solver before)
+  says-15 r e c =
+      let refuses : Clear (faultDerived ws xs x solver (solved ws xs x solver)) → ⊥ = λ z. c (ap (λ f. f .number) derived ∙ z) in
+      let k = derived ∙ by-derived ws xs x solver (length before) C refuses in
+      let high = derived-spans ws xs x solver (solved ws xs x solver) .high refuses in
+      (e ∙ refused-is ws xs x solver (length before) d k c (omega (arith, ap (λ f. f .number) derived, high)), list-kept ws xs x solver before d k c)
+
+  -- 16
+  pub says-16 : (f : Fault) (r : List Float) → d .number ≡ 0 → r ≡ residuals ws xs x (flows ws xs x) solver
+      → f ≡ first 8 (λ i. unless (not (lt (getD tolerances i nan) (getD r i nan))) (fault 16 (i + 1))) → (f .number ≡ 0 → ⊥)
+      → (_≡_ {A = Checked} (record { number = f .number; place = f .place; objective = zero64; residuals = r }) (checked ws xs x solver (length before))) × (before ≡ outputsAfter ws xs x solver before)
+  unfolding faultResidual solved
+  says-16 f r z e k c =
+      let g : f ≡ faultResidual ws xs x solver (solved ws xs x solver) = rw e at k in
+      (residual-answer ws xs x solver (length before) C f r (derived-clear z) g c e, list-kept ws xs x solver before f (g ∙ by-residual ws xs x solver (length before) C (derived-clear z)) c)
+
+  -- accepted
+  pub says-0 : (f : Fault) (r after : List Float) → d .number ≡ 0 → r ≡ residuals ws xs x (flows ws xs x) solver
+      → f ≡ first 8 (λ i. unless (not (lt (getD tolerances i nan) (getD r i nan))) (fault 16 (i + 1))) → f .number ≡ 0
+      → after ≡ listed n m p q pf qf pt qt ++ drop (2 * n + 4 * m) before
+      → (_≡_ {A = Checked} (record { number = 0; place = 0; objective = own; residuals = r }) (checked ws xs x solver (length before))) × (after ≡ outputsAfter ws xs x solver before)
+  unfolding faultResidual solved
+  says-0 f r after z e k c a =
+      let g : f ≡ faultResidual ws xs x solver (solved ws xs x solver) = rw e at k in
+      let h : Clear (checkFault ws xs x solver (length before)) = ap (λ y. y .number) (sym (g ∙ by-residual ws xs x solver (length before) C (derived-clear z))) ∙ c in
+      (accepted-answer ws xs x solver (length before) C f r own (derived-clear z) g c e (H .own-is), a ∙ outputs-left ws xs x solver n m _ before (H .buses-are) (H .branches-are) outputs-are h)
+
+pub held : (ws : List ℕ) (xs x : List Float) (n m : ℕ) (p q pf qf pt qt : List Float) (own : Float) → n ≡ buses ws → m ≡ branches ws
+    → n ≤ length p → n ≤ length q → m ≤ length pf → m ≤ length qf → m ≤ length pt → m ≤ length qt
+    → Agrees (buses ws) (pInjection ws xs x) p → Agrees (buses ws) (qInjection ws xs x) q → FlowsAre ws xs x (branches ws) pf qf pt qt → own ≡ ownObjective ws xs x
+    → Held ws xs x n m p q pf qf pt qt own
+held ws xs x n m p q pf qf pt qt own en em hp hq h1 h2 h3 h4 a b f o =
+    record {
+      buses-are = en;
+      branches-are = em;
+      p-long = hp;
+      q-long = hq;
+      pf-long = h1;
+      qf-long = h2;
+      pt-long = h3;
+      qt-long = h4;
+      p-are = a;
+      q-are = b;
+      flows-are = f;
+      own-is = o;
+    }

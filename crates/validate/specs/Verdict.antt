@@ -2,8 +2,10 @@
 use Prim.Native.Nat.{ℕ}
 use mathlib.Core.Path.{_≡_}
 use mathlib.Core.List.{List}
-use lib.ListN.{replicate}
-use lib.Ieee.{Float}
+use mathlib.Core.Bool.{cond}
+use lib.Dec.{ltb}
+use lib.ListN.{getD, replicate}
+use lib.Ieee.{Float, nan}
 use Rattle.base.specs.declared.Fault.{Fault}
 use Rattle.base.proofs.Firsts.{Clear}
 use Rattle.float.specs.Number.{zero64}
@@ -21,3 +23,7 @@ pub record Cleared (ws : List ℕ) (xs x : List Float) (solver : Float) (lent : 
 -- "A refusal gives number and place, all else 0"
 abbrev pub refusal : Fault → Checked
 refusal f = record { number = f .number; place = f .place; objective = zero64; residuals = replicate 8 zero64 }
+
+-- residual i, from 0, across the C boundary; an index past 7 answers 0
+unfoldable pub residualAt : List Float → ℕ → Float
+residualAt residuals i = cond (ltb i 8) (getD residuals i nan) zero64

@@ -1,11 +1,18 @@
 // validate_primal: whether a solver's point is accepted.
+mod boundary;
 mod bounds;
 mod columns;
 mod derived;
 mod eight;
 mod point;
+mod primal;
 mod residuals;
 mod tolerance;
+
+pub use boundary::validate_check;
+pub use boundary::validate_objective;
+pub use boundary::validate_residual;
+pub use primal::check;
 
 pub struct Checked {
     pub number: u32,

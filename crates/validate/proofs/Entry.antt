@@ -1,0 +1,69 @@
+-- The check from its entry on: each refusal's way out, and what holds where 1 to 14 are clear.
+use mathlib.Core.Path.{_≡_, ap, sym, _∙_}
+use mathlib.Core.List.{List}
+use Prim.Native.Nat.{ℕ, _+_, _*_, _≤_, _<_}
+use native.Mathlib.Omega.{arith}
+use lib.ListN.{length}
+use lib.Ieee.{Float}
+use borrow.Author.Tests.{leb-true, eqb-true}
+use Rattle.base.specs.declared.Fault.{Fault}
+use Rattle.base.proofs.Firsts.{Clear, or-left, unless-true}
+use Rattle.base.proofs.Loops.{tally-le}
+use Rattle.network.specs.Network.{buses, generators, branches, curved, epigraphsBefore, columns}
+use Rattle.network.specs.Fault.{faultTables}
+use Rattle.network.proofs.Good.{Good, good}
+use Rattle.acopf.specs.Factor.{networkFault}
+use Rattle.acopf.proofs.Order.{network-spans}
+use Rattle.validate.specs.declared.Checked.{Checked}
+use Rattle.validate.specs.Agree.{Ready}
+use Rattle.validate.specs.Check.{faultOutput, faultPoint, faultSwing, checkFault, checked, outputsAfter}
+use Rattle.validate.specs.Verdict.{Cleared, refusal}
+use Rattle.validate.proofs.Order.{output-spans, point-spans, swing-spans}
+use Rattle.validate.proofs.Verdict.{refused-is, list-kept, by-network, by-output, by-point, by-swing}
+
+module _ (ws : List ℕ) (xs : List Float) where
+  pub network-good : Clear (networkFault ws xs) → Good ws xs
+  unfolding networkFault
+  network-good c = good ws xs (or-left _ _ c)
+
+  pub few-columns : Good ws xs → columns ws ≤ 1280
+  unfolding columns epigraphsBefore
+  few-columns g = omega (arith, g .few-buses, g .few-generators, tally-le (generators ws) (curved ws))
+
+  pub buses-within : buses ws ≤ columns ws
+  unfolding columns
+  buses-within = omega arith
+
+module _ (ws : List ℕ) (xs x : List Float) (solver : Float) where
+  pub point-given : Clear (faultPoint ws xs x solver) → length x ≡ columns ws
+  unfolding faultPoint
+  point-given c = eqb-true _ _ (unless-true _ 13 (columns ws) (omega arith) (or-left _ _ c))
+
+  pub output-room : (lent : ℕ) → Clear (faultOutput ws xs x solver lent) → 2 * buses ws + 4 * branches ws ≤ lent
+  unfolding faultOutput
+  output-room lent c = leb-true _ _ (unless-true _ 12 1 (omega arith) c)
+
+  module _ (before : List Float) (f : Fault) (r : Checked) (says : r ≡ refusal f) (refuses : f .number ≡ 0 → ⊥) where
+    stop : f ≡ checkFault ws xs x solver (length before) → f .number < 16 → (r ≡ checked ws xs x solver (length before)) × (before ≡ outputsAfter ws xs x solver before)
+    stop e l = (says ∙ refused-is ws xs x solver (length before) f e refuses l, list-kept ws xs x solver before f e refuses)
+
+    number : {g : Fault} → f ≡ g → Clear g → ⊥
+    number e z = refuses (ap (λ y. y .number) e ∙ z)
+
+    pub stop-network : f ≡ networkFault ws xs → (r ≡ checked ws xs x solver (length before)) × (before ≡ outputsAfter ws xs x solver before)
+    stop-network e =
+        stop (e ∙ by-network ws xs x solver (length before) (number e)) (omega (arith, ap (λ y. y .number) e, network-spans ws xs .high (number e)))
+
+    module _ (network : Clear (networkFault ws xs)) where
+      pub stop-output : f ≡ faultOutput ws xs x solver (length before) → (r ≡ checked ws xs x solver (length before)) × (before ≡ outputsAfter ws xs x solver before)
+      stop-output e =
+          stop (e ∙ by-output ws xs x solver (length before) network (number e)) (omega (arith, ap (λ y. y .number) e, output-spans ws xs x solver (length before) .high (number e)))
+
+      module _ (output : Clear (faultOutput ws xs x solver (length before))) where
+        pub stop-point : f ≡ faultPoint ws xs x solver → (r ≡ checked ws xs x solver (length before)) × (before ≡ outputsAfter ws xs x solver before)
+        stop-point e =
+            stop (e ∙ by-point ws xs x solver (length before) network output (number e)) (omega (arith, ap (λ y. y .number) e, point-spans ws xs x solver .high (number e)))
+
+        pub stop-swing : Clear (faultPoint ws xs x solver) → f ≡ faultSwing ws xs x solver → (r ≡ checked ws xs x solver (length before)) × (before ≡ outputsAfter ws xs x solver before)
+        stop-swing point e =
+            stop (e ∙ by-swing ws xs x solver (length before) network output point (number e)) (omega (arith, ap (λ y. y .number) e, swing-spans ws xs x solver .high (number e)))

@@ -1,0 +1,66 @@
+// The check across the C boundary: each function returns one number of the answer, and leaves the output list as `check` does.
+use crate::primal::check;
+use base::Fault;
+ghost use mathlib.Core.Path.{_≡_};
+ghost use lib.ListN.{length};
+ghost use Rattle.base.specs.Fault.{fault, packed};
+ghost use Rattle.validate.specs.Check.{checked, outputsAfter};
+ghost use Rattle.validate.specs.Verdict.{residualAt};
+
+// The refusal's number times 2 to the power 32 plus its place.
+#[no_mangle]
+pub extern "C" fn validate_check(
+    words: &[u32],
+    numbers: &[f64],
+    point: &[f64],
+    solver: f64,
+    outputs: &mut [f64],
+) -> u64
+    ensures { λ r. ⌜ (r ≡ packed (fault (checked (now (words .entry)) (now (numbers .entry)) (now (point .entry)) solver (length (now (outputs .entry))) .number) (checked (now (words .entry)) (now (numbers .entry)) (now (point .entry)) solver (length (now (outputs .entry))) .place)))
+        × (now (outputs .exit) ≡ outputsAfter (now (words .entry)) (now (numbers .entry)) (now (point .entry)) solver (now (outputs .entry))) ⌝ }
+{
+    let answer = check(words, numbers, point, solver, outputs);
+    base::packed(Fault {
+        number: answer.number,
+        place: answer.place,
+    })
+}
+
+#[no_mangle]
+pub extern "C" fn validate_objective(
+    words: &[u32],
+    numbers: &[f64],
+    point: &[f64],
+    solver: f64,
+    outputs: &mut [f64],
+) -> f64
+    ensures { λ r. ⌜ (r ≡ checked (now (words .entry)) (now (numbers .entry)) (now (point .entry)) solver (length (now (outputs .entry))) .objective)
+        × (now (outputs .exit) ≡ outputsAfter (now (words .entry)) (now (numbers .entry)) (now (point .entry)) solver (now (outputs .entry))) ⌝ }
+{
+    let answer = check(words, numbers, point, solver, outputs);
+    answer.objective
+}
+
+fn residual(residuals: [f64; 8], i: usize) -> f64
+    ensures { λ r. ⌜ r ≡ residualAt residuals i ⌝ }
+{
+    if i < 8 { residuals[i] } else { 0.0 }
+}
+
+// Residual i, from 0; an index past 7 answers 0.
+#[no_mangle]
+pub extern "C" fn validate_residual(
+    words: &[u32],
+    numbers: &[f64],
+    point: &[f64],
+    solver: f64,
+    outputs: &mut [f64],
+    i: usize,
+) -> f64
+    ensures { λ r. ⌜ (r ≡ residualAt (checked (now (words .entry)) (now (numbers .entry)) (now (point .entry)) solver (length (now (outputs .entry))) .residuals) i)
+        × (now (outputs .exit) ≡ outputsAfter (now (words .entry)) (now (numbers .entry)) (now (point .entry)) solver (now (outputs .entry))) ⌝ }
+{
+    let answer = check(words, numbers, point, solver, outputs);
+    let residuals = answer.residuals;
+    residual(residuals, i)
+}
