@@ -1,5 +1,5 @@
 # make run: proves, builds and runs the main program. make test: the gate. make fmt: lays out every Rattle file.
-# make replay: the stored answers of the original Rust, held to the definitions (a minute or two; not in the gate).
+# make replay: the stored answers of the original Rust, held to the definitions (some minutes; not in the gate).
 .PHONY: run test fmt replay
 
 run:
