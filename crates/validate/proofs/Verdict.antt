@@ -106,12 +106,6 @@ module _ (ws : List ℕ) (xs x : List Float) (solver : Float) where
         let k : f ≡ checkFault ws xs x solver lent = e ∙ by-residual d in
         rw (← k, eq-eqb (f .number) 0 n, q, o)
 
-  pub accepted-list : (before : List Float) (f : Fault) (result : List Float) (size : ℕ) → Cleared ws xs x solver (length before) → Clear (faultDerived ws xs x solver S) → f ≡ faultResidual ws xs x solver S
-      → f .number ≡ 0 → result ≡ S .outputs → size ≡ length result → result ++ drop size before ≡ outputsAfter ws xs x solver before
-  accepted-list before f result size C d e n q z =
-      let k : f ≡ checkFault ws xs x solver (length before) = e ∙ by-residual (length before) C d in
-      rw (← k, eq-eqb (f .number) 0 n, z, q)
-
 -- ---- the three ways out, from the scratch lists
 
 -- what the scratch lists hold, of the lengths that they have
