@@ -1,0 +1,7 @@
+// Two of compile's lists, row lower and row upper, and what the row count is made of.
+mod bounds;
+mod section;
+
+pub use bounds::angle_count;
+pub use bounds::write_row_lower;
+pub use bounds::write_row_upper;
