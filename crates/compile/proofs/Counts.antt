@@ -21,7 +21,7 @@ use Rattle.acopf.specs.Factor.{constants64, networkFault}
 use Rattle.acopf.proofs.Order.{network-proper}
 use Rattle.acopf.proofs.Counts.{lower-columns, upper-columns, start-columns, lower-rows, upper-rows, model-rows, length-shared, model-shared, count-constants}
 use Rattle.compile.specs.declared.Compiled.{Compiled}
-use Rattle.compile.specs.Compile.{lengths, faultShort, compileFault, compiled}
+use Rattle.compile.specs.Compile.{lengths, faultShort, compileFault, refused, accepted, compiled}
 use Rattle.compile.specs.Counted.{Counted, Suffice, Fronts}
 
 -- the answer of one of two whose number is 0, where the other's is not
@@ -39,7 +39,7 @@ one-of-two n full refused h k = go (eqb n 0) refl
 
 module _ (ws : List ℕ) (xs : List Float) where
   pub counted : (lent : List ℕ) → compiled ws xs lent .number ≡ 0 → Counted ws xs (compiled ws xs lent)
-  unfolding compiled
+  unfolding compiled accepted refused
   counted lent e =
       answered (Counted ws xs) (eqb (compileFault ws xs lent .number) 0) _ _
       (record {
@@ -98,8 +98,8 @@ module _ (ws : List ℕ) (xs : List Float) where
 
     -- ---- nothing is refused
 
-    number-is : compiled ws xs lent .number ≡ compileFault ws xs lent .number
-    unfolding compiled
+    pub number-is : compiled ws xs lent .number ≡ compileFault ws xs lent .number
+    unfolding compiled accepted refused
     number-is = one-of-two (compileFault ws xs lent .number) _ _ refl refl
 
     -- the answer is 0 exactly where the network is not refused and the lists suffice: "12 where lists suffice" is ruled out

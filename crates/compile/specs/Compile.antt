@@ -16,6 +16,10 @@ use Rattle.acopf.specs.Model.{objectiveConstant, fileWords}
 use Rattle.acopf.specs.Factor.{constants64, networkFault}
 use Rattle.compile.specs.declared.Compiled.{Compiled}
 
+-- "A refusal gives number and place, all else 0"
+unfoldable pub refused : Fault → Compiled
+refused f = record { number = f .number; place = f .place; words = 0; constants = 0; columns = 0; rows = 0; shared = 0; objective = zero64 }
+
 module _ (ws : List ℕ) (xs : List Float) where
   -- the results' lengths: "Seven lists, in refusal 12's order: words, constants, column lower, upper, start, row lower, upper"
   unfoldable pub lengths : List ℕ
@@ -33,12 +37,10 @@ module _ (ws : List ℕ) (xs : List Float) where
   unfoldable pub compileFault : List ℕ → Fault
   compileFault lent = orElse (networkFault ws xs) (faultShort lent)
 
-  -- "five counts (words, constants, columns, rows, shared parts) and the objective constant"; "a refusal gives number and place, all else 0"
-  unfoldable pub compiled : List ℕ → Compiled
-  compiled lent =
-      let f = compileFault lent in
-      cond (eqb (f .number) 0)
-      (record {
+  -- "five counts (words, constants, columns, rows, shared parts) and the objective constant"
+  unfoldable pub accepted : Compiled
+  accepted =
+      record {
         number = 0;
         place = 0;
         words = length (fileWords ws xs);
@@ -47,8 +49,17 @@ module _ (ws : List ℕ) (xs : List Float) where
         rows = length (rows ws xs);
         shared = length (sharedParts ws xs);
         objective = objectiveConstant ws xs;
-      })
-      (record { number = f .number; place = f .place; words = 0; constants = 0; columns = 0; rows = 0; shared = 0; objective = zero64 })
+      }
+
+  -- the answer, where the seven lists have the lengths `lent`
+  unfoldable pub compiled : List ℕ → Compiled
+  compiled lent =
+      let f = compileFault lent in
+      cond (eqb (f .number) 0) accepted (refused f)
+
+  -- the answer where each list is exactly as long as its result: a host sizes its lists by it
+  unfoldable pub sized : Compiled
+  sized = compiled lengths
 
   -- what the seven lists hold after the call, from what they held before: the result in front and the rest as it was, or all as it was
   module _ (lent : List ℕ) where

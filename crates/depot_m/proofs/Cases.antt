@@ -28,7 +28,7 @@ use Rattle.acopf.specs.Parts.{branchParts, sharedParts}
 use Rattle.acopf.specs.Rows.{balanceRow, pBalance as pBalanceModel, qBalance as qBalanceModel, thermalRows, segmentRow, segmentRows, rows, rowLower, rowUpper}
 use Rattle.acopf.specs.Model.{costTerm, objective, objectiveConstant, model, fileWords}
 use Rattle.acopf.specs.Factor.{firstNonFinite, constants64, faultFactor, networkFault}
-use Rattle.compile.specs.Compile.{lengths, faultShort, compileFault, compiled}
+use Rattle.compile.specs.Compile.{lengths, faultShort, compileFault, refused, accepted, compiled}
 use Rattle.validate.specs.Outputs.{injected, withdrawn, pInjection, qInjection, cost, ownObjective, flows, outputs}
 use Rattle.validate.specs.Residuals.{largest, largestWhere, pBalance as pBalanceCheck, qBalance as qBalanceCheck, activeBalance, reactiveBalance, thermalLimits, variableBounds, referenceAngles, angleLimits, epigraphs, objectiveDifference, residuals}
 use Rattle.validate.specs.Check.{tiny64, tolerances, solved, faultOutput, faultPoint, faultSwing, faultDerived, faultResidual, faultOf, checkFault, checked}
@@ -133,7 +133,7 @@ cases =
     ∷ []
 
 all-right : T (all cases)
-unfolding loop table each tally unless orElse first isFinite absolute maximum kernelSin kernelCos remPio2 nearPositive nearNegative signed firstIteration secondIteration noCancellation cosine sine sinReduced cosReduced bitByBit normalized squareRoot scaled middle small endless ordered hypotenuse loadFor words wordsOf constants constantsOf partWords modelWords modelConstants wordOk arity uses readHead readExpr isMark readParts readLast readEnd findAfter find findRow rowWords loadRight kindBefore buses generators branches references generatorAt branchAt needed epigraphsBefore columns finiteOr clampStart boundsRight angleRight positiveViolation wordRight faultWords faultSize blanks faultCount faultBlank faultCurve faultShift faultBounds faultSpread faultRating faultSquare branchFault faultBranches faultTables slope intercept evaluate coefficients flowAt flow vmLower vmUpper pgLower pgUpper qgLower qgUpper vaStart vmStart pgStart qgStart epigraphStart columnLower columnUpper columnStart branchParts sharedParts balanceRow pBalanceModel qBalanceModel thermalRows segmentRow segmentRows rows rowLower rowUpper costTerm objective objectiveConstant model fileWords firstNonFinite constants64 faultFactor networkFault lengths faultShort compileFault compiled injected withdrawn pInjection qInjection cost ownObjective flows outputs largest largestWhere pBalanceCheck qBalanceCheck activeBalance reactiveBalance thermalLimits variableBounds referenceAngles angleLimits epigraphs objectiveDifference residuals tolerances solved faultOutput faultPoint faultSwing faultDerived faultResidual faultOf checkFault checked add sub mul div neg ofBits toBits toUnsigned ofInt round lt le eq ne d all sameList compiles starts compileRefuses answers finds cases
+unfolding loop table each tally unless orElse first isFinite absolute maximum kernelSin kernelCos remPio2 nearPositive nearNegative signed firstIteration secondIteration noCancellation cosine sine sinReduced cosReduced bitByBit normalized squareRoot scaled middle small endless ordered hypotenuse loadFor words wordsOf constants constantsOf partWords modelWords modelConstants wordOk arity uses readHead readExpr isMark readParts readLast readEnd findAfter find findRow rowWords loadRight kindBefore buses generators branches references generatorAt branchAt needed epigraphsBefore columns finiteOr clampStart boundsRight angleRight positiveViolation wordRight faultWords faultSize blanks faultCount faultBlank faultCurve faultShift faultBounds faultSpread faultRating faultSquare branchFault faultBranches faultTables slope intercept evaluate coefficients flowAt flow vmLower vmUpper pgLower pgUpper qgLower qgUpper vaStart vmStart pgStart qgStart epigraphStart columnLower columnUpper columnStart branchParts sharedParts balanceRow pBalanceModel qBalanceModel thermalRows segmentRow segmentRows rows rowLower rowUpper costTerm objective objectiveConstant model fileWords firstNonFinite constants64 faultFactor networkFault lengths faultShort compileFault refused accepted compiled injected withdrawn pInjection qInjection cost ownObjective flows outputs largest largestWhere pBalanceCheck qBalanceCheck activeBalance reactiveBalance thermalLimits variableBounds referenceAngles angleLimits epigraphs objectiveDifference residuals tolerances solved faultOutput faultPoint faultSwing faultDerived faultResidual faultOf checkFault checked add sub mul div neg ofBits toBits toUnsigned ofInt round lt le eq ne d all sameList compiles starts compileRefuses answers finds cases
 all-right = tt
 
 -- the constants that the definitions name by their bits are 0, 0.5, 1, 1024, 1e19 and 1e-6

@@ -1,0 +1,4 @@
+pub mod Writers
+pub mod Tokens
+pub mod Pieces
+pub mod Whole

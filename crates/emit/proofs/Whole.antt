@@ -1,0 +1,317 @@
+-- The whole file as tokens: shared parts, rows, objective and end.
+use Prim.Native.Nat.{ℕ, zero, suc, _+_, _-_, _*_, _≤_}
+use native.Mathlib.Nat.{zero-add}
+use native.Mathlib.Omega.{arith}
+use mathlib.Core.Path.{_≡_, refl, sym, ap, _∙_}
+use mathlib.Core.Bool.{Bool, true, false, cond, not, _&&_}
+use mathlib.Core.List.{List, [], _∷_, _++_, map, append-assoc, append-nil}
+use lib.ListN.{length, length-append, length-map}
+use lib.Dec.{eqb, ltb}
+use lib.Ieee.{Float, binary64, ofBits}
+use borrow.Author.Tests.{ne-eqb}
+use Rattle.base.specs.Loop.{table, each, keep}
+use Rattle.base.specs.Word.{word}
+use Rattle.base.proofs.Firsts.{Clear}
+use Rattle.base.proofs.Loops.{bit, length-table, tally-le}
+use Rattle.nl.specs.Expr.{Expr, constants, constantsOf}
+use Rattle.nl.specs.File.{modelWords, modelConstants}
+use Rattle.network.specs.Fault.{faultTables}
+use Rattle.network.specs.Network.{buses, generators, branches, references, branchAt, needed, costs, curved, segments, angled, epigraphsBefore}
+use Rattle.network.specs.declared.sizes.Sizes.{Sizes}
+use Rattle.network.proofs.Good.{good, branch-first}
+use Rattle.network.proofs.Right.{words-clear}
+use Rattle.acopf.specs.Build.{terms, sum}
+use Rattle.acopf.specs.Factor.{constants64}
+use Rattle.acopf.specs.Model.{costTerm, objective, model, fileWords}
+use Rattle.acopf.specs.Parts.{branchParts, sharedParts, pFrom, qFrom, pTo, qTo}
+use Rattle.acopf.specs.Rows.{Row, rows, pBalance, qBalance, referenceRow, angleRow, rated, thermalRow, thermalRows, segmentRow, segmentRows}
+use Rattle.acopf.proofs.Counts.{count-terms}
+use Rattle.factor.specs.NonFinite.{segmentsBefore}
+use Rattle.factor.proofs.Chain.{start-at}
+use Rattle.factor.proofs.Sizes.{objectiveWords, count-of-words}
+use Rattle.factor.proofs.Steps.{segments-none, segments-next, epigraphs-le}
+use Rattle.emit.specs.declared.pen.Pen.{Pen}
+use Rattle.emit.specs.Wrote.{Wrote}
+use Rattle.emit.specs.Tokens.{Token, fixed, numbered, begins, wordsFrom, numbersOf, begun, tokens, listTokens, partTokens, Penned, Room}
+use Rattle.emit.specs.Sized.{Sized}
+use Rattle.emit.specs.Parts.{sharedTokens}
+use Rattle.emit.specs.Balance.{balanceOf}
+use Rattle.emit.specs.Rows.{angleTokens, thermalTokens, curveTokens}
+use Rattle.emit.specs.Objective.{sumHead, costCount, objectiveTokens}
+use Rattle.emit.specs.Whole.{busRows, branchRows, rowTokens}
+use Rattle.emit.proofs.Writers.{then}
+use Rattle.emit.proofs.Tokens.{map-append, numbers-append, words-append, length-words, parts-append, parts-each, parts-table, each-through, each-same, each-zero, table-each, list-terms, list-each, part-words-are, part-numbers-are, words-are, numbers-are}
+use Rattle.emit.proofs.Pieces.{branch-is}
+
+shared-are : (ws : List ℕ) (xs : List Float) → partTokens 10 (sharedParts ws xs) ≡ sharedTokens ws xs (buses ws) (branches ws)
+unfolding sharedParts sharedTokens
+shared-are ws xs = parts-append 10 (table (buses ws) _) (each (branches ws) (branchParts ws xs)) ∙ rw (parts-table, parts-each)
+
+-- ---- rows
+
+abbrev rowParts : List Row → List Token
+rowParts rs = partTokens 11 (map (λ r. r .expression) rs)
+
+rows-append : (u v : List Row) → rowParts (u ++ v) ≡ rowParts u ++ rowParts v
+rows-append u v = rw (map-append (λ (r : Row). r .expression) u v) (parts-append 11 (map (λ r. r .expression) u) (map (λ r. r .expression) v))
+
+rows-each : (n : ℕ) (f : ℕ → List Row) → rowParts (each n f) ≡ each n (λ i. rowParts (f i))
+rows-each = each-through rowParts refl rows-append
+
+rows-table : (n : ℕ) (f : ℕ → Row) → rowParts (table n f) ≡ each n (λ i. rowParts (f i ∷ []))
+rows-table n f = ap rowParts (table-each n f) ∙ rows-each n (λ i. f i ∷ [])
+
+keep-row : (t : Bool) (r : Row) → rowParts (keep t r) ≡ partTokens 11 (keep t (r .expression))
+keep-row true r = refl
+keep-row false r = refl
+
+keep-rows : (t : Bool) (r s : Row) → rowParts (keep t r ++ keep t s) ≡ partTokens 11 (keep t (r .expression) ++ keep t (s .expression))
+keep-rows true r s = refl
+keep-rows false r s = refl
+
+branch-from : (ws : List ℕ) (b : ℕ) → branchAt ws b ≡ branchAt ws 0 + 11 * b
+branch-from ws b = omega (arith, branch-is ws b, branch-is ws 0)
+
+thermal-are : (ws : List ℕ) (xs : List Float) (b : ℕ) → rowParts (thermalRows ws xs b) ≡ thermalTokens ws xs (1 + buses ws + generators ws) (buses ws) (branchAt ws 0) b
+unfolding thermalRows
+thermal-are ws xs b = rw (← branch-from ws b) (keep-rows (rated ws xs b) (thermalRow ws xs b (pFrom ws b) (qFrom ws b)) (thermalRow ws xs b (pTo ws b) (qTo ws b)))
+
+some-rows : (t : Bool) (n : ℕ) (f : ℕ → Row) → rowParts (cond t (table n f) []) ≡ each (cond t n 0) (λ i. rowParts (f i ∷ []))
+some-rows true n f = rows-table n f
+some-rows false n f = sym (each-zero (λ i. rowParts (f i ∷ [])))
+
+curves-are : (ws : List ℕ) (xs : List Float) (g : ℕ) → rowParts (segmentRows ws xs g) ≡ curveTokens ws xs g
+unfolding segmentRows segmentRow curveTokens
+curves-are ws xs g = some-rows (curved ws g) (segments ws g) (segmentRow ws xs g)
+
+p-rows-are : (ws : List ℕ) (xs : List Float) → each (buses ws) (λ i. rowParts (pBalance ws xs i ∷ [])) ≡ each (buses ws) (balanceOf ws xs false)
+unfolding balanceOf
+p-rows-are ws xs = refl
+
+q-rows-are : (ws : List ℕ) (xs : List Float) → each (buses ws) (λ i. rowParts (qBalance ws xs i ∷ [])) ≡ each (buses ws) (balanceOf ws xs true)
+unfolding balanceOf
+q-rows-are ws xs = refl
+
+-- ---- objective
+
+sum-tokens : (es : List Expr) → tokens (sum es) ≡ sumHead (length es) ++ listTokens es
+sum-tokens [] = refl
+sum-tokens (e ∷ []) = sym (append-nil (tokens e))
+sum-tokens (e ∷ f ∷ es) =
+    let none : eqb (suc (suc (length es))) 0 ≡ false = ne-eqb (suc (suc (length es))) 0 (λ h. omega arith) in
+    let one : eqb (suc (suc (length es))) 1 ≡ false = ne-eqb (suc (suc (length es))) 1 (λ h. omega arith) in
+    rw (count-terms es, list-terms es, none, one)
+
+list-table : (n : ℕ) (f : ℕ → Expr) → listTokens (table n f) ≡ each n (λ i. listTokens (f i ∷ []))
+list-table n f = ap listTokens (table-each n f) ∙ list-each n (λ i. f i ∷ [])
+
+sum-if : (p : Bool) (k : ℕ) (f : ℕ → Expr) → tokens (sum (cond p (table k f) [])) ≡ sumHead (costCount p k) ++ each (costCount p k) (λ g. listTokens (f g ∷ []))
+sum-if true k f = sum-tokens (table k f) ∙ rw (length-table k f, list-table k f)
+sum-if false k f = rw (each-zero (λ g. listTokens (f g ∷ [])))
+
+objective-is : (ws : List ℕ) (xs : List Float) → fixed (word 12 0) ∷ tokens (objective ws xs) ++ (fixed (word 13 0) ∷ []) ≡ objectiveTokens ws xs (costCount (costs ws) (generators ws))
+unfolding objective objectiveTokens
+objective-is ws xs = rw (sum-if (costs ws) (generators ws) (costTerm ws xs)) (ap (λ (l : List Token). fixed (word 12 0) ∷ l) (append-assoc (sumHead (costCount (costs ws) (generators ws))) _ _))
+
+-- ---- a model's words and constants
+
+module _ (es fs : List Expr) (o : Expr) where
+  abbrev after : List Token
+  after = partTokens 11 fs ++ (fixed (word 12 0) ∷ tokens o ++ (fixed (word 13 0) ∷ []))
+
+  used : (kind : ℕ) (l : List Expr) → length (constantsOf (terms l)) ≡ length (numbersOf (partTokens kind l))
+  used kind l = sym (length-map (constantsOf (terms l)) (ofBits binary64)) ∙ ap length (part-numbers-are kind l)
+
+  words-of-model : modelWords (record { shared = terms es; rows = terms fs; objective = o }) ≡ wordsFrom 0 0 (partTokens 10 es) ++ wordsFrom (length (numbersOf (partTokens 10 es))) 0 after
+  unfolding modelWords
+  words-of-model =
+      let k = length (numbersOf (partTokens 10 es)) in
+      let i = 0 + begun (partTokens 11 fs) in
+      rw (
+        used 10 es,
+        used 11 fs,
+        part-words-are 10 0 0 es,
+        part-words-are 11 0 k fs,
+        words-are (k + length (numbersOf (partTokens 11 fs))) i o,
+        words-append k 0 (partTokens 11 fs) (fixed (word 12 0) ∷ tokens o ++ (fixed (word 13 0) ∷ [])),
+        words-append (k + length (numbersOf (partTokens 11 fs))) i (tokens o) (fixed (word 13 0) ∷ []),
+      )
+
+  numbers-of-model : map (ofBits binary64) (modelConstants (record { shared = terms es; rows = terms fs; objective = o })) ≡ numbersOf (partTokens 10 es) ++ numbersOf after
+  unfolding modelConstants
+  numbers-of-model =
+      rw (
+        map-append (ofBits binary64) (constantsOf (terms es)) (constantsOf (terms fs) ++ constants o),
+        map-append (ofBits binary64) (constantsOf (terms fs)) (constants o),
+        part-numbers-are 10 es,
+        part-numbers-are 11 fs,
+        numbers-are o,
+        numbers-append (partTokens 11 fs) (fixed (word 12 0) ∷ tokens o ++ (fixed (word 13 0) ∷ [])),
+        numbers-append (tokens o) (fixed (word 13 0) ∷ []),
+        append-nil (numbersOf (tokens o)),
+      )
+
+-- ---- all rows
+
+abbrev own : List ℕ → Sizes
+own ws = record { buses = buses ws; generators = generators ws; branches = branches ws; references = references ws }
+
+rows-are : (ws : List ℕ) (xs : List Float) → rowParts (rows ws xs) ++ (fixed (word 12 0) ∷ tokens (objective ws xs) ++ (fixed (word 13 0) ∷ [])) ≡ rowTokens ws xs (own ws) (branchAt ws 0)
+unfolding rows rowTokens busRows branchRows
+rows-are ws xs =
+    let f = table (buses ws) (pBalance ws xs) in
+    let g = table (buses ws) (qBalance ws xs) in
+    let h = table (references ws) (referenceRow ws xs) in
+    let i = each (branches ws) (λ b. keep (angled ws b) (angleRow ws xs b)) in
+    let j = each (branches ws) (thermalRows ws xs) in
+    let l = each (generators ws) (segmentRows ws xs) in
+    let angles : rowParts i ≡ each (branches ws) (angleTokens ws (1 + buses ws + generators ws)) = rows-each (branches ws) _ ∙ each-same (branches ws) _ _ (λ b. keep-row (angled ws b) (angleRow ws xs b)) in
+    let thermals : rowParts j ≡ each (branches ws) (thermalTokens ws xs (1 + buses ws + generators ws) (buses ws) (branchAt ws 0)) = rows-each (branches ws) _ ∙ each-same (branches ws) _ _ (thermal-are ws xs) in
+    let curves : rowParts l ≡ each (generators ws) (curveTokens ws xs) = rows-each (generators ws) _ ∙ each-same (generators ws) _ _ (curves-are ws xs) in
+    rw (
+      rows-append ((((f ++ g) ++ h) ++ i) ++ j) l,
+      rows-append (((f ++ g) ++ h) ++ i) j,
+      rows-append ((f ++ g) ++ h) i,
+      rows-append (f ++ g) h,
+      rows-append f g,
+      angles,
+      thermals,
+      curves,
+      objective-is ws xs,
+      rows-table (buses ws) (pBalance ws xs),
+      rows-table (buses ws) (qBalance ws xs),
+      rows-table (references ws) (referenceRow ws xs),
+      p-rows-are ws xs,
+      q-rows-are ws xs,
+    )
+    (simp append-assoc)
+
+words-whole : (ws : List ℕ) (xs : List Float) → fileWords ws xs ≡ wordsFrom 0 0 (sharedTokens ws xs (buses ws) (branches ws)) ++ wordsFrom (length (numbersOf (sharedTokens ws xs (buses ws) (branches ws)))) 0 (rowTokens ws xs (own ws) (branchAt ws 0))
+unfolding fileWords model
+words-whole ws xs = words-of-model (sharedParts ws xs) (map (λ r. r .expression) (rows ws xs)) (objective ws xs) ∙ rw (shared-are ws xs, rows-are ws xs)
+
+numbers-whole : (ws : List ℕ) (xs : List Float) → constants64 ws xs ≡ numbersOf (sharedTokens ws xs (buses ws) (branches ws)) ++ numbersOf (rowTokens ws xs (own ws) (branchAt ws 0))
+unfolding constants64 model
+numbers-whole ws xs = numbers-of-model (sharedParts ws xs) (map (λ r. r .expression) (rows ws xs)) (objective ws xs) ∙ rw (shared-are ws xs, rows-are ws xs)
+
+-- ---- two writers, with the partTokens' numbers from 0 again
+
+abbrev pub begin : Pen
+begin = record { word = 0; constant = 0; part = 0 }
+
+abbrev pub again-from : Pen → Pen
+again-from q = record { word = q .word; constant = q .constant; part = 0 }
+
+numbers-le : (ts : List Token) → length (numbersOf ts) ≤ length ts
+numbers-le [] = omega arith
+numbers-le (fixed w ∷ ts) = omega (arith, numbers-le ts)
+numbers-le (numbered w ∷ ts) = omega (arith, numbers-le ts)
+numbers-le (begins w ∷ ts) = omega (arith, numbers-le ts)
+
+begun-le : (ts : List Token) → begun ts ≤ length ts
+begun-le [] = omega arith
+begun-le (fixed w ∷ ts) = omega (arith, begun-le ts)
+begun-le (numbered w ∷ ts) = omega (arith, begun-le ts)
+begun-le (begins w ∷ ts) = omega (arith, begun-le ts)
+
+module _ (u v : List Token) (ws : List ℕ) (cs : List Float) (ew : ws ≡ wordsFrom 0 0 u ++ wordsFrom (length (numbersOf u)) 0 v) (ec : cs ≡ numbersOf u ++ numbersOf v) where
+  lw : length ws ≡ length u + length v
+  lw = omega (arith, ap length ew, length-append (wordsFrom 0 0 u) (wordsFrom (length (numbersOf u)) 0 v), length-words 0 0 u, length-words (length (numbersOf u)) 0 v)
+
+  lc : length cs ≡ length (numbersOf u) + length (numbersOf v)
+  lc = omega (arith, ap length ec, length-append (numbersOf u) (numbersOf v))
+
+  pub room-shared : (w : List ℕ) (c : List Float) → length ws ≤ length w → length cs ≤ length c → length ws ≤ 268435456 → Room w c begin u
+  room-shared w c a b d = record {
+    words = omega (arith, lw, a);
+    numbers = omega (arith, lc, b);
+    constants = omega (arith, lw, numbers-le u, d);
+    parts = omega (arith, lw, begun-le u, d);
+  }
+
+  pub room-rows : {w m : List ℕ} {c n : List Float} {q : Pen} → length ws ≤ length w → length cs ≤ length c → length ws ≤ 268435456 → Penned w c begin u m n q → length m ≡ length w → length n ≡ length c → Room m n (again-from q) v
+  room-rows a b d p e f = record {
+    words = omega (arith, lw, a, e, p .words .next, length-words 0 0 u);
+    numbers = omega (arith, lc, b, f, p .numbers .next);
+    constants = omega (arith, lw, numbers-le u, numbers-le v, d, p .numbers .next);
+    parts = omega (arith, lw, begun-le v, d);
+  }
+
+  pub both-words : {w m w′ : List ℕ} {c n c′ : List Float} {q p : Pen} → Penned w c begin u m n q → Penned m n (again-from q) v w′ c′ p → Wrote w 0 ws w′ (p .word)
+  both-words {w = w} {w′ = w′} {q = q} {p = p} a b =
+      let e : q .constant ≡ length (numbersOf u) = a .numbers .next ∙ zero-add _ in
+      rw ew (rw e at (then (a .words) (b .words)))
+
+  pub both-numbers : {w m w′ : List ℕ} {c n c′ : List Float} {q p : Pen} → Penned w c begin u m n q → Penned m n (again-from q) v w′ c′ p → Wrote c 0 cs c′ (p .constant)
+  both-numbers a b = rw ec (then (a .numbers) (b .numbers))
+
+module _ {ws : List ℕ} {xs : List Float} {z : Sizes} {start : ℕ} (s : Sized ws xs z) (e : start ≡ branchAt ws 0) where
+  same-sizes : z ≡ own ws
+  same-sizes = λ i. record { buses = s .n-is i; generators = s .k-is i; branches = s .m-is i; references = s .r-is i }
+
+  pub words-at : fileWords ws xs ≡ wordsFrom 0 0 (sharedTokens ws xs (z .buses) (z .branches)) ++ wordsFrom (length (numbersOf (sharedTokens ws xs (z .buses) (z .branches)))) 0 (rowTokens ws xs z start)
+  words-at = rw (same-sizes, e) (words-whole ws xs)
+
+  pub numbers-at : constants64 ws xs ≡ numbersOf (sharedTokens ws xs (z .buses) (z .branches)) ++ numbersOf (rowTokens ws xs z start)
+  numbers-at = rw (same-sizes, e) (numbers-whole ws xs)
+
+-- ---- a network that refusals 1 to 10 do not refuse
+
+few-segments : (ws : List ℕ) (g : ℕ) → segmentsBefore ws g ≤ 31 * g
+few-segments ws zero = omega (arith, segments-none ws)
+few-segments ws (suc g) =
+    let n = segments-next ws g in
+    let e : suc g ≡ g + 1 = omega arith in
+    rw e (omega (arith, few-segments ws g, one (curved ws g)))
+  where
+    one : (b : Bool) → cond b (segments ws g) 0 ≤ 31
+    one true = omega arith
+    one false = omega arith
+
+few-objective : (ws : List ℕ) → objectiveWords ws ≤ 8 * generators ws + 2
+unfolding objectiveWords
+few-objective ws = go (costs ws && not (eqb (generators ws) 0)) (ltb 1 (generators ws)) (epigraphs-le ws (generators ws))
+  where
+    go : (a b : Bool) → epigraphsBefore ws (generators ws) ≤ generators ws
+        → cond a (bit b + (epigraphsBefore ws (generators ws) + 8 * (generators ws - epigraphsBefore ws (generators ws)))) 1 ≤ 8 * generators ws + 2
+    go true true h = omega arith
+    go true false h = omega arith
+    go false b h = omega arith
+
+module _ (ws : List ℕ) (xs : List Float) (right : Clear (faultTables ws xs)) where
+  -- every running number fits in 28 bits
+  pub few-words : length (fileWords ws xs) ≤ 268435456
+  few-words =
+      let G = good ws xs right in
+      omega (
+        arith,
+        count-of-words ws xs (words-clear ws xs right),
+        G .few-buses,
+        G .few-generators,
+        G .few-branches,
+        G .few-references,
+        tally-le (branches ws) (angled ws),
+        tally-le (branches ws) (rated ws xs),
+        few-segments ws (generators ws),
+        few-objective ws,
+      )
+
+  pub sized : (z : Sizes) → z .buses ≡ buses ws → z .generators ≡ generators ws → z .branches ≡ branches ws → z .references ≡ references ws → Sized ws xs z
+  unfolding needed
+  sized z n k m r =
+      let G = good ws xs right in
+      record {
+        n-is = n;
+        k-is = k;
+        m-is = m;
+        r-is = r;
+        few-buses = rw n (G .few-buses);
+        few-generators = rw k (G .few-generators);
+        few-branches = rw m (G .few-branches);
+        words = rw (n, k, m, r) (omega (arith, G .words));
+        numbers = rw m (omega (arith, G .numbers));
+        few-numbers = omega (arith, G .numbers, G .few-numbers);
+      }
+
+  pub starts : (z : Sizes) → z .branches ≡ branches ws → length xs - 11 * z .branches ≡ branchAt ws 0
+  starts z m = start-at ws xs right m refl ∙ sym (branch-first ws)

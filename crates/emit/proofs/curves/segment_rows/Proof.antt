@@ -1,0 +1,71 @@
+use Prim.Native.Nat.{ℕ, _-_, _≤_}
+use native.Mathlib.Omega.{arith}
+use mathlib.Core.Path.{_≡_}
+use mathlib.Core.List.{List, [], _∷_}
+use lib.ListN.{length}
+use lib.Ieee.{Float}
+use borrow.Author.Needs.{needs}
+use Rattle.base.specs.Loop.{each}
+use Rattle.acopf.specs.Curve.{slope, intercept}
+use Rattle.emit.specs.Tokens.{Penned, partTokens}
+use Rattle.emit.specs.Rows.{segmentOf, segmentTokens}
+use Rattle.emit.proofs.Tokens.{turns-none, turns-step, turns-room}
+use Rattle.emit.proofs.curves.segment_rows.Statement.{statement}
+use Rattle.emit.proofs.curves.segment_rows.Tie as tie
+
+row-is : (xs : List Float) (at e c s : ℕ) {a b : Float} → a ≡ slope xs at s → b ≡ intercept xs at s → partTokens 11 (segmentOf e c a b ∷ []) ≡ segmentTokens xs at e c s
+row-is xs at e c s p q = rw (p, q)
+
+abbrev Inv-loop : tie.InvT-loop
+Inv-loop numbers at count epigraph pg file₀ constants₀ next₀ s₀ file constants next s =
+    (s ≤ count) × (length file ≡ length file₀) × (length constants ≡ length constants₀) × Penned file₀ constants₀ next₀ (each s (segmentTokens numbers at epigraph pg)) file constants next
+
+abbrev μ-loop : tie.MeasureT-loop
+μ-loop numbers at count epigraph pg file₀ constants₀ next₀ s₀ file constants next s = count - s
+
+loop-holds : tie.Need-loop-holds Inv-loop μ-loop
+loop-holds c = (search needs, search needs, search needs, turns-none _ _ _ _)
+
+slope-of-requires : tie.Need-slope-of-requires Inv-loop μ-loop
+slope-of-requires c κs = c .before .before .before .before .before .pre .0 (c .before .loop .s) (c .loop-test .taken)
+
+intercept-of-requires : tie.Need-intercept-of-requires Inv-loop μ-loop
+intercept-of-requires c κs = c .before .before .before .before .before .before .pre .0 (c .before .before .loop .s) (c .before .loop-test .taken)
+
+segment-row-requires : tie.Need-segment-row-requires Inv-loop μ-loop
+segment-row-requires c κs = (c .before .before .before .before .before .before .before .before .before .pre .2, c .before .before .before .before .before .before .before .before .before .pre .3, rw (row-is (c .before .before .before .before .before .before .before .before .before .args .numbers .now) (c .before .before .before .before .before .before .before .before .before .args .at) (c .before .before .before .before .before .before .before .before .before .args .epigraph) (c .before .before .before .before .before .before .before .before .before .args .pg) (c .before .before .before .before .before .loop .s) (c .before .before .before .slope-of .ensures) (c .before .before .intercept-of .ensures)) (turns-room _ (segmentTokens (c .before .before .before .before .before .before .before .before .before .args .numbers .now) (c .before .before .before .before .before .before .before .before .before .args .at) (c .before .before .before .before .before .before .before .before .before .args .epigraph) (c .before .before .before .before .before .before .before .before .before .args .pg)) (c .before .before .before .before .before .loop .s) (search needs) (c .before .before .before .before .before .before .before .before .before .pre .4) (c .before .before .before .before .before .loop .inv .3) (c .before .before .before .before .before .loop .inv .1) (c .before .before .before .before .before .loop .inv .2)))
+
+add-s : tie.Need-add-s Inv-loop μ-loop
+add-s c = search needs
+
+loop-less : tie.Need-loop-less Inv-loop μ-loop
+loop-less c = search needs
+
+loop-again : tie.Need-loop-again Inv-loop μ-loop
+loop-again c = (search needs, omega (arith, c .before .before .before .before .segment-row .kept, c .before .before .before .before .before .before .before .before .before .before .loop .inv .1), omega (arith, c .before .before .before .before .segment-row .kept, c .before .before .before .before .before .before .before .before .before .before .loop .inv .2), turns-step (segmentTokens (c .before .before .before .before .before .before .before .before .before .before .before .before .before .before .args .numbers .now) (c .before .before .before .before .before .before .before .before .before .before .before .before .before .before .args .at) (c .before .before .before .before .before .before .before .before .before .before .before .before .before .before .args .epigraph) (c .before .before .before .before .before .before .before .before .before .before .before .before .before .before .args .pg)) (c .before .before .before .before .before .before .before .before .before .before .loop .s) (c .before .before .before .before .before .before .before .before .before .before .loop .inv .3) (rw (row-is (c .before .before .before .before .before .before .before .before .before .before .before .before .before .before .args .numbers .now) (c .before .before .before .before .before .before .before .before .before .before .before .before .before .before .args .at) (c .before .before .before .before .before .before .before .before .before .before .before .before .before .before .args .epigraph) (c .before .before .before .before .before .before .before .before .before .before .before .before .before .before .args .pg) (c .before .before .before .before .before .before .before .before .before .before .loop .s) (c .before .before .before .before .before .before .before .before .slope-of .ensures) (c .before .before .before .before .before .before .before .intercept-of .ensures)) at (c .before .before .before .before .segment-row .ensures)))
+
+same-length : tie.Need-same-length Inv-loop μ-loop
+same-length c = search needs
+
+same-length-2 : tie.Need-same-length-2 Inv-loop μ-loop
+same-length-2 c = search needs
+
+returns : tie.Need-returns Inv-loop μ-loop
+returns c = let e : c .before .loop .s ≡ c .before .before .before .before .before .args .count = search needs in rw e at (c .before .loop .inv .3)
+
+pub segment-rows-spec : {M : Type 1} → statement M
+segment-rows-spec =
+    tie.close
+    (tie.spec
+    Inv-loop
+    μ-loop
+    loop-holds
+    slope-of-requires
+    intercept-of-requires
+    segment-row-requires
+    add-s
+    loop-less
+    loop-again
+    same-length
+    same-length-2
+    returns)

@@ -1,0 +1,20 @@
+-- What the writers need of a network that refusals 1 to 10 do not refuse: its sizes, their limits, and lists that are long enough.
+use Prim.Native.Nat.{ℕ, _+_, _≤_}
+use mathlib.Core.Path.{_≡_}
+use mathlib.Core.List.{List}
+use lib.ListN.{length}
+use lib.Ieee.{Float}
+use Rattle.network.specs.declared.sizes.Sizes.{Sizes}
+use Rattle.network.specs.Network.{buses, generators, branches, references, branchAt}
+
+pub record Sized (ws : List ℕ) (xs : List Float) (s : Sizes) : Type 0 where
+  pub n-is : s .buses ≡ buses ws
+  pub k-is : s .generators ≡ generators ws
+  pub m-is : s .branches ≡ branches ws
+  pub r-is : s .references ≡ references ws
+  pub few-buses : s .buses ≤ 256
+  pub few-generators : s .generators ≤ 256
+  pub few-branches : s .branches ≤ 512
+  pub words : 1 + s .buses + s .generators + s .branches + s .references ≤ length ws
+  pub numbers : branchAt ws (s .branches) ≤ length xs
+  pub few-numbers : length xs ≤ 18176

@@ -1,0 +1,120 @@
+// The rows of curve segments.
+use crate::pen::Pen;
+use crate::pen::put;
+use crate::word::ADD;
+use crate::word::COLUMN;
+use crate::word::CONSTANT;
+use crate::word::MULTIPLY;
+use crate::word::ROW;
+use crate::word::SUBTRACT;
+use crate::word::model_word;
+use acopf::intercept_of;
+use acopf::slope_of;
+use factor::counted;
+use factor::is_curved;
+use factor::row_segments;
+use network::Sizes;
+use network::generator_points;
+use network::header_costs;
+ghost use mathlib.Core.List.{[], _∷_};
+ghost use Prim.Native.Nat.{ℕ, _+_, _*_, _<_, _≤_};
+ghost use lib.ListN.{length};
+ghost use Rattle.base.specs.Loop.{each};
+ghost use Rattle.emit.specs.Tokens.{Penned, Room, partTokens};
+ghost use Rattle.emit.specs.Sized.{Sized};
+ghost use Rattle.emit.specs.Rows.{segmentOf, segmentTokens, curveTokens};
+
+// The epigraph column, less slope times pg plus intercept.
+fn segment_row(
+    epigraph: usize,
+    pg: usize,
+    slope: f64,
+    intercept: f64,
+    file: &mut [u32],
+    constants: &mut [f64],
+    pen: Pen,
+) -> Pen
+    requires { ⌜ (epigraph < 4096) × (pg < 4096)
+        × Room (now file) (now constants) pen (partTokens 11 (segmentOf epigraph pg slope intercept ∷ [])) ⌝ }
+    ensures { λ r. ⌜ Penned (now (file .entry)) (now (constants .entry)) pen (partTokens 11 (segmentOf epigraph pg slope intercept ∷ []))
+        (now (file .exit)) (now (constants .exit)) r ⌝ }
+{
+    let constant = pen.constant;
+    put(
+        file,
+        constants,
+        pen,
+        &[
+            model_word(ROW, pen.part),
+            SUBTRACT,
+            model_word(COLUMN, epigraph),
+            ADD,
+            MULTIPLY,
+            model_word(CONSTANT, constant),
+            model_word(COLUMN, pg),
+            model_word(CONSTANT, constant + 1),
+        ],
+        &[slope, intercept],
+        1,
+    )
+}
+
+// Of a curve whose numbers start at `at`, the first `count` segments.
+fn segment_rows(
+    numbers: &[f64],
+    at: usize,
+    count: usize,
+    epigraph: usize,
+    pg: usize,
+    file: &mut [u32],
+    constants: &mut [f64],
+    pen: Pen,
+) -> Pen
+    requires { ⌜ ((s : ℕ) → s < count → at + 2 * s + 4 ≤ length (now numbers)) × (count ≤ 31) × (epigraph < 4096) × (pg < 4096)
+        × Room (now file) (now constants) pen (each count (segmentTokens (now numbers) at epigraph pg)) ⌝ }
+    ensures { λ r. ⌜ Penned (now (file .entry)) (now (constants .entry)) pen (each count (segmentTokens (now (numbers .entry)) at epigraph pg))
+        (now (file .exit)) (now (constants .exit)) r ⌝ }
+{
+    let mut next = pen;
+    let mut s = 0usize;
+    while s < count {
+        let slope = slope_of(numbers, at, s);
+        let intercept = intercept_of(numbers, at, s);
+        next = segment_row(epigraph, pg, slope, intercept, file, constants, next);
+        s += 1;
+    }
+    next
+}
+
+pub(crate) fn curve_rows(
+    words: &[u32],
+    numbers: &[f64],
+    sizes: Sizes,
+    file: &mut [u32],
+    constants: &mut [f64],
+    pen: Pen,
+) -> Pen
+    requires { ⌜ Sized (now words) (now numbers) sizes
+        × Room (now file) (now constants) pen (each (sizes .generators) (curveTokens (now words) (now numbers))) ⌝ }
+    ensures { λ r. ⌜ Penned (now (file .entry)) (now (constants .entry)) pen (each (sizes .generators) (curveTokens (now (words .entry)) (now (numbers .entry))))
+        (now (file .exit)) (now (constants .exit)) r ⌝ }
+{
+    let n = sizes.buses;
+    let k = sizes.generators;
+    let priced = header_costs(words[0]);
+    let mut next = pen;
+    let mut at = 8 * n;
+    let mut epigraphs = 0usize;
+    let mut g = 0usize;
+    while g < k {
+        let points = generator_points(words[1 + n + g]);
+        let count = row_segments(priced, points);
+        let epigraph = 2 * n + 2 * k + epigraphs;
+        let pg = 2 * n + g;
+        next = segment_rows(numbers, at + 9, count, epigraph, pg, file, constants, next);
+        at += 9 + 2 * points;
+        epigraphs = counted(epigraphs, is_curved(priced, points));
+        g += 1;
+    }
+    next
+}

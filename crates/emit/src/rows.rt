@@ -1,0 +1,205 @@
+// The rows of references, active angle differences and thermal limits.
+use crate::pen::Pen;
+use crate::pen::put;
+use crate::word::ADD;
+use crate::word::COLUMN;
+use crate::word::CONSTANT;
+use crate::word::ROW;
+use crate::word::SHARED;
+use crate::word::SQUARE;
+use crate::word::SUBTRACT;
+use crate::word::model_word;
+use factor::is_rated;
+use network::branch_angled;
+use network::branch_from;
+use network::branch_to;
+use network::reference_bus;
+ghost use mathlib.Core.List.{[], _∷_};
+ghost use Prim.Native.Nat.{_+_, _*_, _<_, _≤_};
+ghost use lib.ListN.{length};
+ghost use Rattle.base.specs.Loop.{each, keep};
+ghost use Rattle.nl.specs.Expr.{column};
+ghost use Rattle.acopf.specs.Build.{subtract};
+ghost use Rattle.emit.specs.Tokens.{Penned, Room, partTokens};
+ghost use Rattle.emit.specs.Rows.{referenceTokens, angleTokens, thermalOf, thermalPair, thermalTokens};
+
+fn reference_row(va: usize, file: &mut [u32], constants: &mut [f64], pen: Pen) -> Pen
+    requires { ⌜ (va < 4096)
+        × Room (now file) (now constants) pen (partTokens 11 (column va ∷ [])) ⌝ }
+    ensures { λ r. ⌜ Penned (now (file .entry)) (now (constants .entry)) pen (partTokens 11 (column va ∷ []))
+        (now (file .exit)) (now (constants .exit)) r ⌝ }
+{
+    put(
+        file,
+        constants,
+        pen,
+        &[model_word(ROW, pen.part), model_word(COLUMN, va)],
+        &[],
+        1,
+    )
+}
+
+pub(crate) fn reference_rows(
+    words: &[u32],
+    first: usize,
+    count: usize,
+    file: &mut [u32],
+    constants: &mut [f64],
+    pen: Pen,
+) -> Pen
+    requires { ⌜ (first + count ≤ length (now words))
+        × Room (now file) (now constants) pen (each count (referenceTokens (now words) first)) ⌝ }
+    ensures { λ r. ⌜ Penned (now (file .entry)) (now (constants .entry)) pen (each count (referenceTokens (now (words .entry)) first))
+        (now (file .exit)) (now (constants .exit)) r ⌝ }
+{
+    let mut next = pen;
+    let mut i = 0usize;
+    while i < count {
+        next = reference_row(reference_bus(words[first + i]), file, constants, next);
+        i += 1;
+    }
+    next
+}
+
+fn angle_row(
+    active: bool,
+    from: usize,
+    to: usize,
+    file: &mut [u32],
+    constants: &mut [f64],
+    pen: Pen,
+) -> Pen
+    requires { ⌜ (from < 4096) × (to < 4096)
+        × Room (now file) (now constants) pen (partTokens 11 (keep active (subtract (column from) (column to)))) ⌝ }
+    ensures { λ r. ⌜ Penned (now (file .entry)) (now (constants .entry)) pen (partTokens 11 (keep active (subtract (column from) (column to))))
+        (now (file .exit)) (now (constants .exit)) r ⌝ }
+{
+    if active {
+        return put(
+            file,
+            constants,
+            pen,
+            &[
+                model_word(ROW, pen.part),
+                SUBTRACT,
+                model_word(COLUMN, from),
+                model_word(COLUMN, to),
+            ],
+            &[],
+            1,
+        );
+    }
+    pen
+}
+
+pub(crate) fn angle_rows(
+    words: &[u32],
+    first: usize,
+    m: usize,
+    file: &mut [u32],
+    constants: &mut [f64],
+    pen: Pen,
+) -> Pen
+    requires { ⌜ (first + m ≤ length (now words))
+        × Room (now file) (now constants) pen (each m (angleTokens (now words) first)) ⌝ }
+    ensures { λ r. ⌜ Penned (now (file .entry)) (now (constants .entry)) pen (each m (angleTokens (now (words .entry)) first))
+        (now (file .exit)) (now (constants .exit)) r ⌝ }
+{
+    let mut next = pen;
+    let mut b = 0usize;
+    while b < m {
+        let w = words[first + b];
+        next = angle_row(
+            branch_angled(w),
+            branch_from(w),
+            branch_to(w),
+            file,
+            constants,
+            next,
+        );
+        b += 1;
+    }
+    next
+}
+
+// s_max squared, less p squared plus q squared.
+fn thermal_row(
+    square: f64,
+    p: usize,
+    q: usize,
+    file: &mut [u32],
+    constants: &mut [f64],
+    pen: Pen,
+) -> Pen
+    requires { ⌜ (p < 65536) × (q < 65536)
+        × Room (now file) (now constants) pen (partTokens 11 (thermalOf p q square ∷ [])) ⌝ }
+    ensures { λ r. ⌜ Penned (now (file .entry)) (now (constants .entry)) pen (partTokens 11 (thermalOf p q square ∷ []))
+        (now (file .exit)) (now (constants .exit)) r ⌝ }
+{
+    put(
+        file,
+        constants,
+        pen,
+        &[
+            model_word(ROW, pen.part),
+            SUBTRACT,
+            model_word(CONSTANT, pen.constant),
+            ADD,
+            SQUARE,
+            model_word(SHARED, p),
+            SQUARE,
+            model_word(SHARED, q),
+        ],
+        &[square],
+        1,
+    )
+}
+
+// At from, then at to.
+fn thermal_pair(
+    rated: bool,
+    first: usize,
+    square: f64,
+    file: &mut [u32],
+    constants: &mut [f64],
+    pen: Pen,
+) -> Pen
+    requires { ⌜ (first < 65000)
+        × Room (now file) (now constants) pen (partTokens 11 (thermalPair rated first square)) ⌝ }
+    ensures { λ r. ⌜ Penned (now (file .entry)) (now (constants .entry)) pen (partTokens 11 (thermalPair rated first square))
+        (now (file .exit)) (now (constants .exit)) r ⌝ }
+{
+    if rated {
+        let next = thermal_row(square, first + 4, first + 5, file, constants, pen);
+        return thermal_row(square, first + 6, first + 7, file, constants, next);
+    }
+    pen
+}
+
+// Of m branches, whose words start at `first` and whose numbers at `start`.
+pub(crate) fn thermal_rows(
+    words: &[u32],
+    numbers: &[f64],
+    first: usize,
+    n: usize,
+    start: usize,
+    m: usize,
+    file: &mut [u32],
+    constants: &mut [f64],
+    pen: Pen,
+) -> Pen
+    requires { ⌜ (first + m ≤ length (now words)) × (start + 11 * m ≤ length (now numbers)) × (n ≤ 256) × (m ≤ 512)
+        × Room (now file) (now constants) pen (each m (thermalTokens (now words) (now numbers) first n start)) ⌝ }
+    ensures { λ r. ⌜ Penned (now (file .entry)) (now (constants .entry)) pen (each m (thermalTokens (now (words .entry)) (now (numbers .entry)) first n start))
+        (now (file .exit)) (now (constants .exit)) r ⌝ }
+{
+    let mut next = pen;
+    let mut b = 0usize;
+    while b < m {
+        let s_max = numbers[start + 11 * b + 10];
+        let rated = is_rated(words[first + b], s_max);
+        next = thermal_pair(rated, n + 8 * b, s_max * s_max, file, constants, next);
+        b += 1;
+    }
+    next
+}
