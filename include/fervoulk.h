@@ -36,11 +36,11 @@ typedef char fervoulk_size_t_has_64_bits[sizeof(size_t) == 8 ? 1 : -1];
 
 /*
  * The numbers of document 01's table, each named by its word. What the place is stands beside it. Compile uses 1 to 12, the check 1 to
- * 16, the finder 17 and 18; the first fault in document 01's order decides.
+ * 16, the finder 17 and 18; the first fault decides, by number, but 8, 9 and 10 branch by branch.
  */
 enum fervoulk_refusal {
     FERVOULK_NONE = 0,      /* nothing is refused; the place is 0 */
-    FERVOULK_WORDS = 1,     /* network words of a wrong form: the first such word */
+    FERVOULK_WORDS = 1,     /* network word of a wrong form, or a bus number too high: the first such word, 0 for an empty list */
     FERVOULK_SIZE = 2,      /* a limit passed: the word that passes it, 0 where there is no bus */
     FERVOULK_COUNT = 3,     /* number list not of the needed length: that length */
     FERVOULK_BLANK = 4,     /* required number not finite: its index */
@@ -56,7 +56,7 @@ enum fervoulk_refusal {
     FERVOULK_SWING = 14,    /* voltage angle outside -1,024 to 1,024: the column */
     FERVOULK_DERIVED = 15,  /* output not finite: its index; 2n + 4m for the solver's objective, 2n + 4m + 1 for the own */
     FERVOULK_RESIDUAL = 16, /* a residual above its tolerance: the first, from 1 */
-    FERVOULK_MODEL = 17,    /* model words wrong: the first wrong word, the length where they run out */
+    FERVOULK_MODEL = 17,    /* model words wrong: the first wrong word, the length where they run out, the end word with constants left */
     FERVOULK_ROW = 18       /* no such row: the number of rows */
 };
 

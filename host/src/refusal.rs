@@ -2,11 +2,11 @@
 
 use std::fmt;
 
-/// What is refused, by document 01's word. The number is `kind as u32`, 1 to 18.
+/// What is refused, by document 01's word; with each, what the place is. The number is `kind as u32`, 1 to 18.
 #[derive(Clone, Copy, Debug, PartialEq, Eq, Hash)]
 #[repr(u32)]
 pub enum Kind {
-    /// network words of a wrong form: the first such word
+    /// network word of a wrong form, or a bus number too high: the first such word, 0 for an empty list
     Words = 1,
     /// a limit passed: the word that passes it, 0 where there is no bus
     Size,
@@ -38,7 +38,7 @@ pub enum Kind {
     Derived,
     /// a residual above its tolerance: the first, from 1
     Residual,
-    /// model words wrong: the first wrong word, the length where they run out
+    /// model words wrong: the first wrong word, the length where they run out, the end word where constants are left over
     Model,
     /// no such row: the number of rows
     Row,
