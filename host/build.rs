@@ -7,11 +7,7 @@ fn main() {
     let archives = host.join("../target/staticlib");
     println!("cargo:rerun-if-changed=build.rs");
     println!("cargo:rustc-link-search=native={}", archives.display());
-    let mut names = vec!["nl", "validate"];
-    if std::env::var_os("CARGO_FEATURE_COMPILE").is_some() {
-        names.push("compile");
-    }
-    for name in names {
+    for name in ["nl", "validate", "compile"] {
         let archive = archives.join(format!("lib{name}.a"));
         println!("cargo:rerun-if-changed={}", archive.display());
         assert!(archive.exists(), "no {}: run `rt staticlib {name}` first", archive.display());

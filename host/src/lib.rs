@@ -8,13 +8,11 @@
 #[allow(unsafe_code)]
 mod boundary;
 mod check;
-#[cfg(feature = "compile")]
 mod model;
 mod refusal;
 mod row;
 
 pub use check::{check, Check, Outputs, Residuals};
-#[cfg(feature = "compile")]
 pub use model::{compile, Model};
 pub use refusal::{Kind, Refusal};
 pub use row::{find_row, same};

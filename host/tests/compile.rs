@@ -1,5 +1,4 @@
 //! Document 01's Depot M through `compile`: the P cases, a refused network, and empty lists.
-#![cfg(feature = "compile")]
 
 mod depot;
 

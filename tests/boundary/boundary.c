@@ -163,8 +163,6 @@ static void test_check_lists(void) {
 
 /* ---- compile */
 
-#ifdef FERVOULK_COMPILE
-
 #define LENT 32
 #define GUARD 0xFEDCBA98
 
@@ -281,18 +279,14 @@ static void test_compile_refused(void) {
     EXPECT(same_bits(compile_objective(NULL, 0, NULL, 0), 0));
 }
 
-#endif
-
 int main(void) {
     test_answers();
     test_find_row();
     test_same();
     test_check();
     test_check_lists();
-#ifdef FERVOULK_COMPILE
     test_compile();
     test_compile_refused();
-#endif
     printf("boundary: %d checks, %d wrong\n", checks, wrong);
     return wrong == 0 ? 0 : 1;
 }

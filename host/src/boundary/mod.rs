@@ -4,7 +4,6 @@
 //! pointer that nothing is read through), and a `&mut` slice overlaps no other. The functions are proved for any contents and lengths,
 //! keep no pointer and do not unwind.
 
-#[cfg(feature = "compile")]
 pub mod compile;
 pub mod nl;
 pub mod validate;
