@@ -2,12 +2,15 @@
 # make replay: the stored answers of the original Rust, held to the definitions (some minutes; not in the gate).
 .PHONY: run test fmt replay
 
+# the tests that the gate runs after rt ci
+TESTS = tests/gate-paths tests/boundary/run
+
 run:
 	@echo "no main program yet: it comes with compile"
 	@exit 1
 
 test:
-	@rt ci
+	@tests/gate $(TESTS)
 
 fmt:
 	@rt fmt

@@ -1,0 +1,92 @@
+//! libvalidate.a: whether a point is accepted.
+
+mod c {
+    extern "C" {
+        pub fn validate_check(
+            words: *const u32,
+            words_length: usize,
+            numbers: *const f64,
+            numbers_length: usize,
+            point: *const f64,
+            point_length: usize,
+            solver: f64,
+            outputs: *mut f64,
+            outputs_length: usize,
+        ) -> u64;
+        pub fn validate_objective(
+            words: *const u32,
+            words_length: usize,
+            numbers: *const f64,
+            numbers_length: usize,
+            point: *const f64,
+            point_length: usize,
+            solver: f64,
+            outputs: *mut f64,
+            outputs_length: usize,
+        ) -> f64;
+        pub fn validate_residual(
+            words: *const u32,
+            words_length: usize,
+            numbers: *const f64,
+            numbers_length: usize,
+            point: *const f64,
+            point_length: usize,
+            solver: f64,
+            outputs: *mut f64,
+            outputs_length: usize,
+            i: usize,
+        ) -> f64;
+    }
+}
+
+pub fn validate_check(words: &[u32], numbers: &[f64], point: &[f64], solver: f64, outputs: &mut [f64]) -> u64 {
+    // SAFETY: each pair is a slice; the written one is a `&mut` slice.
+    unsafe {
+        c::validate_check(
+            words.as_ptr(),
+            words.len(),
+            numbers.as_ptr(),
+            numbers.len(),
+            point.as_ptr(),
+            point.len(),
+            solver,
+            outputs.as_mut_ptr(),
+            outputs.len(),
+        )
+    }
+}
+
+pub fn validate_objective(words: &[u32], numbers: &[f64], point: &[f64], solver: f64, outputs: &mut [f64]) -> f64 {
+    // SAFETY: each pair is a slice; the written one is a `&mut` slice.
+    unsafe {
+        c::validate_objective(
+            words.as_ptr(),
+            words.len(),
+            numbers.as_ptr(),
+            numbers.len(),
+            point.as_ptr(),
+            point.len(),
+            solver,
+            outputs.as_mut_ptr(),
+            outputs.len(),
+        )
+    }
+}
+
+pub fn validate_residual(words: &[u32], numbers: &[f64], point: &[f64], solver: f64, outputs: &mut [f64], i: usize) -> f64 {
+    // SAFETY: each pair is a slice; the written one is a `&mut` slice.
+    unsafe {
+        c::validate_residual(
+            words.as_ptr(),
+            words.len(),
+            numbers.as_ptr(),
+            numbers.len(),
+            point.as_ptr(),
+            point.len(),
+            solver,
+            outputs.as_mut_ptr(),
+            outputs.len(),
+            i,
+        )
+    }
+}

@@ -1,0 +1,292 @@
+/*
+ * Calls every function of include/fervoulk.h on document 01's Depot M, on refused cases and on empty lists, and holds answers and lists to
+ * what the document gives. Lists are longer than their results, with guard values that must stay.
+ */
+#include "fervoulk.h"
+
+#include <math.h>
+#include <stdio.h>
+#include <string.h>
+
+#define LENGTH(list) (sizeof(list) / sizeof((list)[0]))
+#define LIST(list) (list), LENGTH(list)
+#define NETWORK LIST(words), LIST(numbers)
+
+static int checks;
+static int wrong;
+
+static void expect(int right, const char *what, int line) {
+    checks++;
+    if (!right) {
+        wrong++;
+        printf("boundary.c:%d: wrong: %s\n", line, what);
+    }
+}
+
+#define EXPECT(fact) expect((fact), #fact, __LINE__)
+
+static int refused(uint64_t answer, uint32_t number, uint32_t place) {
+    return fervoulk_number(answer) == number && fervoulk_place(answer) == place;
+}
+
+static int same_bits(double a, double b) {
+    return memcmp(&a, &b, sizeof a) == 0;
+}
+
+/* Depot M */
+static const uint32_t words[] = {0x10000001, 0x20000001, 0x30001000, 0x50000000};
+static const uint32_t inactive[] = {0x10000001, 0x20000001, 0x30000000, 0x50000000};
+static const double numbers[] = {1, 0.25, 0, 0, 0.9, 1.1, 0, 1, 0, 2, -1, 1, 2, 3, 4, 1, 0.25};
+/* pmin 2, pmax 1 */
+static const double crossed[] = {1, 0.25, 0, 0, 0.9, 1.1, 0, 1, 2, 1, -1, 1, 2, 3, 4, 1, 0.25};
+
+/* its model file */
+static const uint32_t model[] = {
+    0xA0000000, 0x60000000, 0x10000001, 0xB0000000, 0x90000003, 0x00000000, 0x50000000, 0x00000001, 0x20000000, 0x10000002,
+    0xB0000001, 0x90000003, 0x00000002, 0x50000000, 0x00000003, 0x20000000, 0x10000003, 0xB0000002, 0x10000000, 0xC0000000,
+    0x90000002, 0x50000000, 0x00000004, 0x60000000, 0x10000002, 0x50000000, 0x00000005, 0x10000002, 0xD0000000};
+static const double model_constants[] = {-1, -0.0, -0.25, 0, 1, 3};
+
+static const double point[] = {0, 1, 1, 0.25};
+
+/* ---- the helpers of the header */
+
+static void test_answers(void) {
+    EXPECT(refused(0, FERVOULK_NONE, 0));
+    EXPECT(refused((UINT64_C(7) << 32) + 2, FERVOULK_BOUNDS, 2));
+    EXPECT(refused((UINT64_C(18) << 32) + UINT32_MAX, FERVOULK_ROW, FERVOULK_PLACE_MAX));
+    EXPECT(strcmp(fervoulk_word(FERVOULK_WORDS), "words") == 0);
+    EXPECT(strcmp(fervoulk_word(FERVOULK_SHORT), "short") == 0);
+    EXPECT(strcmp(fervoulk_word(FERVOULK_ROW), "row") == 0);
+    EXPECT(strcmp(fervoulk_word(0), "") == 0);
+    EXPECT(strcmp(fervoulk_word(19), "") == 0);
+}
+
+/* ---- the finder */
+
+static void test_find_row(void) {
+    EXPECT(nl_find_row(LIST(model), 6, 4, 0) == 0);
+    EXPECT(nl_row_start(LIST(model), 6, 4, 0) == 4);
+    EXPECT(nl_row_length(LIST(model), 6, 4, 0) == 6);
+    EXPECT(nl_find_row(LIST(model), 6, 4, 2) == 0);
+    EXPECT(nl_row_start(LIST(model), 6, 4, 2) == 18);
+    EXPECT(nl_row_length(LIST(model), 6, 4, 2) == 1);
+    EXPECT(model[18] == 0x10000000);
+    EXPECT(refused(nl_find_row(LIST(model), 6, 4, 3), FERVOULK_ROW, 3));
+    EXPECT(nl_row_start(LIST(model), 6, 4, 3) == 0);
+    EXPECT(nl_row_length(LIST(model), 6, 4, 3) == 0);
+    EXPECT(refused(nl_find_row(model, LENGTH(model) - 1, 6, 4, 2), FERVOULK_MODEL, 28));
+    EXPECT(nl_row_start(model, LENGTH(model) - 1, 6, 4, 2) == 0);
+    EXPECT(nl_row_length(model, LENGTH(model) - 1, 6, 4, 2) == 0);
+    EXPECT(refused(nl_find_row(LIST(model), 7, 4, 2), FERVOULK_MODEL, 28));
+    EXPECT(refused(nl_find_row(LIST(model), 6, 3, 2), FERVOULK_MODEL, 16));
+    EXPECT(refused(nl_find_row(LIST(model), SIZE_MAX, SIZE_MAX, SIZE_MAX), FERVOULK_MODEL, 28));
+    EXPECT(refused(nl_find_row(NULL, 0, 6, 4, 0), FERVOULK_MODEL, 0));
+    EXPECT(nl_row_start(NULL, 0, 6, 4, 0) == 0);
+    EXPECT(nl_row_length(NULL, 0, 6, 4, 0) == 0);
+}
+
+static void test_same(void) {
+    const double positive[] = {-1, 0.0, -0.25, 0, 1, 3};
+    const double other[] = {-1, -0.0, -0.25, 0, 1, 4};
+    const double none[] = {NAN};
+    uint32_t changed[LENGTH(model)];
+    memcpy(changed, model, sizeof model);
+    changed[28] = 0xC0000000;
+    EXPECT(nl_same(LIST(model), LIST(model_constants), LIST(model), LIST(model_constants)) == 1);
+    EXPECT(nl_same(LIST(model), LIST(model_constants), LIST(model), LIST(positive)) == 1);
+    EXPECT(nl_same(LIST(model), LIST(model_constants), LIST(model), LIST(other)) == 0);
+    EXPECT(nl_same(LIST(model), LIST(model_constants), LIST(changed), LIST(model_constants)) == 0);
+    EXPECT(nl_same(LIST(model), LIST(model_constants), model, 28, LIST(model_constants)) == 0);
+    EXPECT(nl_same(LIST(model), LIST(model_constants), LIST(model), model_constants, 5) == 0);
+    EXPECT(nl_same(LIST(model), LIST(none), LIST(model), LIST(none)) == 0);
+    EXPECT(nl_same(NULL, 0, NULL, 0, NULL, 0, NULL, 0) == 1);
+    EXPECT(nl_same(NULL, 0, NULL, 0, LIST(model), NULL, 0) == 0);
+    EXPECT(nl_same(NULL, 0, NULL, 0, NULL, 0, LIST(model_constants)) == 0);
+}
+
+/* ---- the check */
+
+/* a point's answer by all three functions, with 3 numbers lent of which an accepted point writes 2 */
+static void expect_check(
+    const uint32_t *w, const double *x, const double *p, size_t columns, double solver, uint32_t number, uint32_t place,
+    double objective, size_t residual, double violation, int line) {
+    double outputs[] = {7, 7, 7};
+    const double front = number == 0 ? 0 : 7;
+    for (size_t call = 0; call < 11; call++) {
+        for (size_t i = 0; i < LENGTH(outputs); i++) {
+            outputs[i] = 7;
+        }
+        if (call == 0) {
+            const uint64_t answer = validate_check(w, 4, x, 17, p, columns, solver, LIST(outputs));
+            expect(refused(answer, number, place), "validate_check", line);
+        } else if (call == 1) {
+            expect(same_bits(validate_objective(w, 4, x, 17, p, columns, solver, LIST(outputs)), objective), "validate_objective", line);
+        } else {
+            const size_t i = call - 2;
+            const double is = validate_residual(w, 4, x, 17, p, columns, solver, LIST(outputs), i);
+            expect(same_bits(is, i == residual ? violation : 0), "validate_residual", line);
+        }
+        expect(same_bits(outputs[0], front), "first output", line);
+        expect(same_bits(outputs[1], front), "second output", line);
+        expect(same_bits(outputs[2], 7), "behind the outputs", line);
+    }
+}
+
+static void test_check(void) {
+    const double at[] = {1e-6, 1, 1, 0.25};
+    const double above[] = {nextafter(1e-6, 1), 1, 1, 0.25};
+    const double strong[] = {0, 1, 1.5, 0.25};
+    expect_check(words, numbers, point, 4, 8, 0, 0, 8, 0, 0, __LINE__);
+    expect_check(words, numbers, at, 4, 8, 0, 0, 8, 3, 1e-6, __LINE__);
+    expect_check(words, numbers, above, 4, 8, FERVOULK_RESIDUAL, 4, 0, 3, above[0], __LINE__);
+    expect_check(words, numbers, strong, 4, 10.75, FERVOULK_RESIDUAL, 1, 0, 0, 0.5, __LINE__);
+    expect_check(words, numbers, point, 3, 8, FERVOULK_POINT, 4, 0, 0, 0, __LINE__);
+    expect_check(words, numbers, point, 4, INFINITY, FERVOULK_DERIVED, 2, 0, 0, 0, __LINE__);
+    expect_check(words, crossed, point, 4, 8, FERVOULK_BOUNDS, 2, 0, 0, 0, __LINE__);
+    expect_check(inactive, crossed, point, 4, 8, 0, 0, 8, 0, 0, __LINE__);
+}
+
+static void test_check_lists(void) {
+    double outputs[] = {7, 7};
+    EXPECT(refused(validate_check(NETWORK, LIST(point), 8, outputs, 1), FERVOULK_SHORT, 1));
+    EXPECT(same_bits(outputs[0], 7) && same_bits(outputs[1], 7));
+    EXPECT(refused(validate_check(NETWORK, LIST(point), 8, NULL, 0), FERVOULK_SHORT, 1));
+    EXPECT(refused(validate_check(NETWORK, NULL, 0, 8, LIST(outputs)), FERVOULK_POINT, 4));
+    EXPECT(refused(validate_check(LIST(words), NULL, 0, LIST(point), 8, LIST(outputs)), FERVOULK_COUNT, 17));
+    EXPECT(refused(validate_check(NULL, 0, LIST(numbers), LIST(point), 8, LIST(outputs)), FERVOULK_WORDS, 0));
+    EXPECT(refused(validate_check(NULL, 0, NULL, 0, NULL, 0, 8, NULL, 0), FERVOULK_WORDS, 0));
+    EXPECT(same_bits(validate_objective(NULL, 0, NULL, 0, NULL, 0, 8, NULL, 0), 0));
+    EXPECT(same_bits(validate_residual(NULL, 0, NULL, 0, NULL, 0, 8, NULL, 0, 0), 0));
+    EXPECT(same_bits(validate_residual(NETWORK, LIST(point), 8, LIST(outputs), SIZE_MAX), 0));
+}
+
+/* ---- compile */
+
+#define LENT 32
+#define GUARD 0xFEDCBA98
+
+/* seven lent lists */
+struct lent {
+    uint32_t words[LENT];
+    double numbers[6][LENT];
+};
+
+static void fill(struct lent *l) {
+    for (size_t i = 0; i < LENT; i++) {
+        l->words[i] = GUARD;
+        for (size_t list = 0; list < 6; list++) {
+            l->numbers[list][i] = 7;
+        }
+    }
+}
+
+/* compiles into lists of those lengths */
+static uint64_t compile_into(struct lent *l, const uint32_t *w, size_t w_length, const double *x, size_t x_length, const size_t *lengths) {
+    fill(l);
+    return compile_model(
+        w, w_length, x, x_length, l->words, lengths[0], l->numbers[0], lengths[1], l->numbers[1], lengths[2], l->numbers[2], lengths[3],
+        l->numbers[3], lengths[4], l->numbers[4], lengths[5], l->numbers[5], lengths[6]);
+}
+
+static int untouched(const struct lent *l) {
+    struct lent before;
+    fill(&before);
+    return memcmp(l, &before, sizeof before) == 0;
+}
+
+/* The lists have Depot M's model in front, with those starts, and are as they were behind it. */
+static int has_model(const struct lent *l, const double *start) {
+    static const double lower[] = {-1e19, 0.9, 0, -1};
+    static const double upper[] = {1e19, 1.1, 2, 1};
+    static const double zeros[] = {0, 0, 0};
+    struct lent expected;
+    fill(&expected);
+    memcpy(expected.words, model, sizeof model);
+    memcpy(expected.numbers[0], model_constants, sizeof model_constants);
+    memcpy(expected.numbers[1], lower, sizeof lower);
+    memcpy(expected.numbers[2], upper, sizeof upper);
+    memcpy(expected.numbers[3], start, sizeof lower);
+    memcpy(expected.numbers[4], zeros, sizeof zeros);
+    memcpy(expected.numbers[5], zeros, sizeof zeros);
+    return memcmp(l, &expected, sizeof expected) == 0;
+}
+
+static const size_t long_enough[] = {LENT, LENT, LENT, LENT, LENT, LENT, LENT};
+static const size_t exact[] = {29, 6, 4, 4, 4, 3, 3};
+
+static void test_compile(void) {
+    static const double start[] = {0, 1, 1, 0.25};
+    static const double moved_start[] = {7, 1.1, 1, 0.25};
+    struct lent l;
+    EXPECT(compile_into(&l, NETWORK, long_enough) == 0);
+    EXPECT(has_model(&l, start));
+    EXPECT(compile_into(&l, NETWORK, exact) == 0);
+    EXPECT(has_model(&l, start));
+    EXPECT(compile_words(NETWORK) == 29);
+    EXPECT(compile_constants(NETWORK) == 6);
+    EXPECT(compile_columns(NETWORK) == 4);
+    EXPECT(compile_rows(NETWORK) == 3);
+    EXPECT(compile_shared(NETWORK) == 1);
+    EXPECT(same_bits(compile_objective(NETWORK), 4));
+    /* va start 7, vm start 1.25 */
+    double moved[LENGTH(numbers)];
+    memcpy(moved, numbers, sizeof numbers);
+    moved[6] = 7;
+    moved[7] = 1.25;
+    EXPECT(compile_into(&l, LIST(words), LIST(moved), long_enough) == 0);
+    EXPECT(has_model(&l, moved_start));
+    /* what compile writes, the finder reads */
+    EXPECT(nl_find_row(l.words, 29, 6, 4, 2) == 0);
+    EXPECT(nl_same(l.words, 29, l.numbers[0], 6, LIST(model), LIST(model_constants)) == 1);
+}
+
+static void test_compile_refused(void) {
+    struct lent l;
+    EXPECT(refused(compile_into(&l, LIST(words), LIST(crossed), long_enough), FERVOULK_BOUNDS, 2));
+    EXPECT(untouched(&l));
+    EXPECT(compile_words(LIST(words), LIST(crossed)) == 0);
+    EXPECT(compile_constants(LIST(words), LIST(crossed)) == 0);
+    EXPECT(compile_columns(LIST(words), LIST(crossed)) == 0);
+    EXPECT(compile_rows(LIST(words), LIST(crossed)) == 0);
+    EXPECT(compile_shared(LIST(words), LIST(crossed)) == 0);
+    EXPECT(same_bits(compile_objective(LIST(words), LIST(crossed)), 0));
+    EXPECT(compile_words(LIST(inactive), LIST(crossed)) == 29);
+    /* each list one element short, and each list empty */
+    for (size_t list = 0; list < 7; list++) {
+        size_t lengths[7];
+        memcpy(lengths, exact, sizeof exact);
+        lengths[list]--;
+        EXPECT(refused(compile_into(&l, NETWORK, lengths), FERVOULK_SHORT, (uint32_t)list + 1));
+        EXPECT(untouched(&l));
+        lengths[list] = 0;
+        EXPECT(refused(compile_into(&l, NETWORK, lengths), FERVOULK_SHORT, (uint32_t)list + 1));
+        EXPECT(untouched(&l));
+    }
+    EXPECT(refused(compile_into(&l, LIST(words), NULL, 0, long_enough), FERVOULK_COUNT, 17));
+    EXPECT(untouched(&l));
+    EXPECT(refused(compile_into(&l, NULL, 0, LIST(numbers), long_enough), FERVOULK_WORDS, 0));
+    EXPECT(untouched(&l));
+    EXPECT(refused(
+        compile_model(NETWORK, NULL, 0, NULL, 0, NULL, 0, NULL, 0, NULL, 0, NULL, 0, NULL, 0), FERVOULK_SHORT, 1));
+    EXPECT(refused(
+        compile_model(NULL, 0, NULL, 0, NULL, 0, NULL, 0, NULL, 0, NULL, 0, NULL, 0, NULL, 0, NULL, 0), FERVOULK_WORDS, 0));
+    EXPECT(compile_words(NULL, 0, NULL, 0) == 0);
+    EXPECT(compile_constants(NULL, 0, NULL, 0) == 0);
+    EXPECT(compile_columns(NULL, 0, NULL, 0) == 0);
+    EXPECT(compile_rows(NULL, 0, NULL, 0) == 0);
+    EXPECT(compile_shared(NULL, 0, NULL, 0) == 0);
+    EXPECT(same_bits(compile_objective(NULL, 0, NULL, 0), 0));
+}
+
+int main(void) {
+    test_answers();
+    test_find_row();
+    test_same();
+    test_check();
+    test_check_lists();
+    test_compile();
+    test_compile_refused();
+    printf("boundary: %d checks, %d wrong\n", checks, wrong);
+    return wrong == 0 ? 0 : 1;
+}
