@@ -4,3 +4,4 @@ pub mod Left
 pub mod Turns
 pub mod Scans
 pub mod Totals
+pub mod Sections

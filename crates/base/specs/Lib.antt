@@ -1,3 +1,4 @@
 pub mod Loop
 pub mod Word
 pub mod Fault
+pub mod Section

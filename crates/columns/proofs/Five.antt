@@ -17,9 +17,9 @@ use Rattle.acopf.proofs.Counts.{lower-columns, upper-columns, start-columns}
 use Rattle.factor.proofs.Steps.{room}
 use Rattle.columns.specs.declared.ColumnList.{ColumnList}
 use Rattle.columns.specs.declared.ColumnList.the-variants.{Lower, Upper, Start}
-use Rattle.columns.specs.Section.{Wrote}
+use Rattle.base.specs.Section.{Wrote}
 use Rattle.columns.specs.Value.{columnValue, vaValue, vmValue, generatorValue, epigraphValue}
-use Rattle.columns.proofs.Section.{then, wrote-front}
+use Rattle.base.proofs.Sections.{then, wrote-front}
 
 -- ---- room
 

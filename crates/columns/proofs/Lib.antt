@@ -1,3 +1,2 @@
-pub mod Section
 pub mod Value
 pub mod Five

@@ -16,7 +16,7 @@ use Rattle.acopf.specs.Columns.{pgLower, pgUpper, pgStart, epigraphStart}
 use Rattle.acopf.specs.Curve.{evaluate}
 use Rattle.factor.proofs.Steps.{curved-is}
 use Rattle.columns.specs.Value.{epigraphValue}
-use Rattle.columns.proofs.Section.{each-fits}
+use Rattle.base.proofs.Sections.{each-fits}
 
 module _ (ws : List ℕ) (xs : List Float) where
   -- the starts of all epigraphs have room for the next one

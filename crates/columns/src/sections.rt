@@ -10,7 +10,7 @@ ghost use lib.ListN.{length};
 ghost use Rattle.base.specs.Loop.{table, each, keep};
 ghost use Rattle.network.specs.Fault.{faultTables};
 ghost use Rattle.network.specs.Network.{buses, generators, costs, epigraphsBefore};
-ghost use Rattle.columns.specs.Section.{Wrote};
+ghost use Rattle.base.specs.Section.{Wrote};
 ghost use Rattle.columns.specs.Value.{vaValue, vmValue, generatorValue, epigraphValue};
 
 // The same value `count` times.

@@ -32,6 +32,8 @@ use Rattle.compile.specs.Compile.{lengths, faultShort, compileFault, refused, a
 use Rattle.validate.specs.Outputs.{injected, withdrawn, pInjection, qInjection, cost, ownObjective, flows, outputs}
 use Rattle.validate.specs.Residuals.{largest, largestWhere, pBalance as pBalanceCheck, qBalance as qBalanceCheck, activeBalance, reactiveBalance, thermalLimits, variableBounds, referenceAngles, angleLimits, epigraphs, objectiveDifference, residuals}
 use Rattle.validate.specs.Check.{tiny64, tolerances, solved, faultOutput, faultPoint, faultSwing, faultDerived, faultResidual, faultOf, checkFault, checked}
+use Rattle.depot_text.specs.Input.{wordAt, bitsAt, formed, inputWords, inputNumbers}
+use Rattle.depot_text.specs.Text.{hexLine, hexLines, decimalWithin, refusedLine, networkText, output}
 
 -- the numbers of a decimal, as a literal is read
 unfoldable d : ℕ → ℕ → Float
@@ -62,6 +64,10 @@ compiles ws xs file cs objective =
     eqb (r .number) 0 && eqb (r .place) 0 && sameList (fileWords ws xs) file && sameList (bits (constants64 ws xs)) (bits cs)
     && eqb (toBits binary64 (r .objective)) (toBits binary64 objective)
     && sameList (r .words ∷ r .constants ∷ r .columns ∷ r .rows ∷ r .shared ∷ []) (length file ∷ length cs ∷ columns ws ∷ length (rows ws xs) ∷ length (sharedParts ws xs) ∷ [])
+
+-- the program prints that text for that input
+unfoldable prints : List ℕ → List ℕ → Bool
+prints input text = sameList (output input) text
 
 unfoldable starts : List ℕ → List Float → List Float → Bool
 starts ws xs expected = eqb (compiled ws xs lent .number) 0 && sameList (bits (columnStart ws xs)) (bits expected)
@@ -104,6 +110,63 @@ file =
     ∷ 0xB0000001 ∷ 0x90000003 ∷ 0x00000002 ∷ 0x50000000 ∷ 0x00000003 ∷ 0x20000000 ∷ 0x10000003 ∷ 0xB0000002 ∷ 0x10000000
     ∷ 0xC0000000 ∷ 0x90000002 ∷ 0x50000000 ∷ 0x00000004 ∷ 0x60000000 ∷ 0x10000002 ∷ 0x50000000 ∷ 0x00000005 ∷ 0x10000002 ∷ 0xD0000000 ∷ []
 
+-- M as the program reads it, eight bytes a line: the counts, the words, the numbers
+abbrev input : List ℕ
+input =
+    4 ∷ 0 ∷ 0 ∷ 0 ∷ 17 ∷ 0 ∷ 0 ∷ 0
+    ∷ 1 ∷ 0 ∷ 0 ∷ 16 ∷ 1 ∷ 0 ∷ 0 ∷ 32
+    ∷ 0 ∷ 16 ∷ 0 ∷ 48 ∷ 0 ∷ 0 ∷ 0 ∷ 80
+    ∷ 0 ∷ 0 ∷ 0 ∷ 0 ∷ 0 ∷ 0 ∷ 240 ∷ 63
+    ∷ 0 ∷ 0 ∷ 0 ∷ 0 ∷ 0 ∷ 0 ∷ 208 ∷ 63
+    ∷ 0 ∷ 0 ∷ 0 ∷ 0 ∷ 0 ∷ 0 ∷ 0 ∷ 0
+    ∷ 0 ∷ 0 ∷ 0 ∷ 0 ∷ 0 ∷ 0 ∷ 0 ∷ 0
+    ∷ 205 ∷ 204 ∷ 204 ∷ 204 ∷ 204 ∷ 204 ∷ 236 ∷ 63
+    ∷ 154 ∷ 153 ∷ 153 ∷ 153 ∷ 153 ∷ 153 ∷ 241 ∷ 63
+    ∷ 0 ∷ 0 ∷ 0 ∷ 0 ∷ 0 ∷ 0 ∷ 0 ∷ 0
+    ∷ 0 ∷ 0 ∷ 0 ∷ 0 ∷ 0 ∷ 0 ∷ 240 ∷ 63
+    ∷ 0 ∷ 0 ∷ 0 ∷ 0 ∷ 0 ∷ 0 ∷ 0 ∷ 0
+    ∷ 0 ∷ 0 ∷ 0 ∷ 0 ∷ 0 ∷ 0 ∷ 0 ∷ 64
+    ∷ 0 ∷ 0 ∷ 0 ∷ 0 ∷ 0 ∷ 0 ∷ 240 ∷ 191
+    ∷ 0 ∷ 0 ∷ 0 ∷ 0 ∷ 0 ∷ 0 ∷ 240 ∷ 63
+    ∷ 0 ∷ 0 ∷ 0 ∷ 0 ∷ 0 ∷ 0 ∷ 0 ∷ 64
+    ∷ 0 ∷ 0 ∷ 0 ∷ 0 ∷ 0 ∷ 0 ∷ 8 ∷ 64
+    ∷ 0 ∷ 0 ∷ 0 ∷ 0 ∷ 0 ∷ 0 ∷ 16 ∷ 64
+    ∷ 0 ∷ 0 ∷ 0 ∷ 0 ∷ 0 ∷ 0 ∷ 240 ∷ 63
+    ∷ 0 ∷ 0 ∷ 0 ∷ 0 ∷ 0 ∷ 0 ∷ 208 ∷ 63 ∷ []
+
+-- the file's words as they are printed, a line each
+abbrev text : List ℕ
+text =
+    65 ∷ 48 ∷ 48 ∷ 48 ∷ 48 ∷ 48 ∷ 48 ∷ 48 ∷ 10
+    ∷ 54 ∷ 48 ∷ 48 ∷ 48 ∷ 48 ∷ 48 ∷ 48 ∷ 48 ∷ 10
+    ∷ 49 ∷ 48 ∷ 48 ∷ 48 ∷ 48 ∷ 48 ∷ 48 ∷ 49 ∷ 10
+    ∷ 66 ∷ 48 ∷ 48 ∷ 48 ∷ 48 ∷ 48 ∷ 48 ∷ 48 ∷ 10
+    ∷ 57 ∷ 48 ∷ 48 ∷ 48 ∷ 48 ∷ 48 ∷ 48 ∷ 51 ∷ 10
+    ∷ 48 ∷ 48 ∷ 48 ∷ 48 ∷ 48 ∷ 48 ∷ 48 ∷ 48 ∷ 10
+    ∷ 53 ∷ 48 ∷ 48 ∷ 48 ∷ 48 ∷ 48 ∷ 48 ∷ 48 ∷ 10
+    ∷ 48 ∷ 48 ∷ 48 ∷ 48 ∷ 48 ∷ 48 ∷ 48 ∷ 49 ∷ 10
+    ∷ 50 ∷ 48 ∷ 48 ∷ 48 ∷ 48 ∷ 48 ∷ 48 ∷ 48 ∷ 10
+    ∷ 49 ∷ 48 ∷ 48 ∷ 48 ∷ 48 ∷ 48 ∷ 48 ∷ 50 ∷ 10
+    ∷ 66 ∷ 48 ∷ 48 ∷ 48 ∷ 48 ∷ 48 ∷ 48 ∷ 49 ∷ 10
+    ∷ 57 ∷ 48 ∷ 48 ∷ 48 ∷ 48 ∷ 48 ∷ 48 ∷ 51 ∷ 10
+    ∷ 48 ∷ 48 ∷ 48 ∷ 48 ∷ 48 ∷ 48 ∷ 48 ∷ 50 ∷ 10
+    ∷ 53 ∷ 48 ∷ 48 ∷ 48 ∷ 48 ∷ 48 ∷ 48 ∷ 48 ∷ 10
+    ∷ 48 ∷ 48 ∷ 48 ∷ 48 ∷ 48 ∷ 48 ∷ 48 ∷ 51 ∷ 10
+    ∷ 50 ∷ 48 ∷ 48 ∷ 48 ∷ 48 ∷ 48 ∷ 48 ∷ 48 ∷ 10
+    ∷ 49 ∷ 48 ∷ 48 ∷ 48 ∷ 48 ∷ 48 ∷ 48 ∷ 51 ∷ 10
+    ∷ 66 ∷ 48 ∷ 48 ∷ 48 ∷ 48 ∷ 48 ∷ 48 ∷ 50 ∷ 10
+    ∷ 49 ∷ 48 ∷ 48 ∷ 48 ∷ 48 ∷ 48 ∷ 48 ∷ 48 ∷ 10
+    ∷ 67 ∷ 48 ∷ 48 ∷ 48 ∷ 48 ∷ 48 ∷ 48 ∷ 48 ∷ 10
+    ∷ 57 ∷ 48 ∷ 48 ∷ 48 ∷ 48 ∷ 48 ∷ 48 ∷ 50 ∷ 10
+    ∷ 53 ∷ 48 ∷ 48 ∷ 48 ∷ 48 ∷ 48 ∷ 48 ∷ 48 ∷ 10
+    ∷ 48 ∷ 48 ∷ 48 ∷ 48 ∷ 48 ∷ 48 ∷ 48 ∷ 52 ∷ 10
+    ∷ 54 ∷ 48 ∷ 48 ∷ 48 ∷ 48 ∷ 48 ∷ 48 ∷ 48 ∷ 10
+    ∷ 49 ∷ 48 ∷ 48 ∷ 48 ∷ 48 ∷ 48 ∷ 48 ∷ 50 ∷ 10
+    ∷ 53 ∷ 48 ∷ 48 ∷ 48 ∷ 48 ∷ 48 ∷ 48 ∷ 48 ∷ 10
+    ∷ 48 ∷ 48 ∷ 48 ∷ 48 ∷ 48 ∷ 48 ∷ 48 ∷ 53 ∷ 10
+    ∷ 49 ∷ 48 ∷ 48 ∷ 48 ∷ 48 ∷ 48 ∷ 48 ∷ 50 ∷ 10
+    ∷ 68 ∷ 48 ∷ 48 ∷ 48 ∷ 48 ∷ 48 ∷ 48 ∷ 48 ∷ 10 ∷ []
+
 abbrev none : List Float
 none = replicate 8 (d 0 1)
 
@@ -118,6 +181,7 @@ above = ofBits binary64 (toBits binary64 (d 1 1000000) + 1)
 cases : List Bool
 cases =
     compiles M xs file (neg (d 1 1) ∷ neg (d 0 1) ∷ neg (d 1 4) ∷ d 0 1 ∷ d 1 1 ∷ d 3 1 ∷ []) (d 4 1)
+    ∷ prints input text
     ∷ answers M xs (d 0 1 ∷ d 1 1 ∷ d 1 1 ∷ d 1 4 ∷ []) (d 8 1) 0 0 (d 8 1) none
     ∷ answers M xs (d 1 1000000 ∷ d 1 1 ∷ d 1 1 ∷ d 1 4 ∷ []) (d 8 1) 0 0 (d 8 1) (only 4 (d 1 1000000))
     ∷ answers M xs (above ∷ d 1 1 ∷ d 1 1 ∷ d 1 4 ∷ []) (d 8 1) 16 4 (d 0 1) (only 4 above)
@@ -133,7 +197,7 @@ cases =
     ∷ []
 
 all-right : T (all cases)
-unfolding loop table each tally unless orElse first isFinite absolute maximum kernelSin kernelCos remPio2 nearPositive nearNegative signed firstIteration secondIteration noCancellation cosine sine sinReduced cosReduced bitByBit normalized squareRoot scaled middle small endless ordered hypotenuse loadFor words wordsOf constants constantsOf partWords modelWords modelConstants wordOk arity uses readHead readExpr isMark readParts readLast readEnd findAfter find findRow rowWords loadRight kindBefore buses generators branches references generatorAt branchAt needed epigraphsBefore columns finiteOr clampStart boundsRight angleRight positiveViolation wordRight faultWords faultSize blanks faultCount faultBlank faultCurve faultShift faultBounds faultSpread faultRating faultSquare branchFault faultBranches faultTables slope intercept evaluate coefficients flowAt flow vmLower vmUpper pgLower pgUpper qgLower qgUpper vaStart vmStart pgStart qgStart epigraphStart columnLower columnUpper columnStart branchParts sharedParts balanceRow pBalanceModel qBalanceModel thermalRows segmentRow segmentRows rows rowLower rowUpper costTerm objective objectiveConstant model fileWords firstNonFinite constants64 faultFactor networkFault lengths faultShort compileFault refused accepted compiled injected withdrawn pInjection qInjection cost ownObjective flows outputs largest largestWhere pBalanceCheck qBalanceCheck activeBalance reactiveBalance thermalLimits variableBounds referenceAngles angleLimits epigraphs objectiveDifference residuals tolerances solved faultOutput faultPoint faultSwing faultDerived faultResidual faultOf checkFault checked add sub mul div neg ofBits toBits toUnsigned ofInt round lt le eq ne d all sameList compiles starts compileRefuses answers finds cases
+unfolding loop table each tally unless orElse first isFinite absolute maximum kernelSin kernelCos remPio2 nearPositive nearNegative signed firstIteration secondIteration noCancellation cosine sine sinReduced cosReduced bitByBit normalized squareRoot scaled middle small endless ordered hypotenuse loadFor words wordsOf constants constantsOf partWords modelWords modelConstants wordOk arity uses readHead readExpr isMark readParts readLast readEnd findAfter find findRow rowWords loadRight kindBefore buses generators branches references generatorAt branchAt needed epigraphsBefore columns finiteOr clampStart boundsRight angleRight positiveViolation wordRight faultWords faultSize blanks faultCount faultBlank faultCurve faultShift faultBounds faultSpread faultRating faultSquare branchFault faultBranches faultTables slope intercept evaluate coefficients flowAt flow vmLower vmUpper pgLower pgUpper qgLower qgUpper vaStart vmStart pgStart qgStart epigraphStart columnLower columnUpper columnStart branchParts sharedParts balanceRow pBalanceModel qBalanceModel thermalRows segmentRow segmentRows rows rowLower rowUpper costTerm objective objectiveConstant model fileWords firstNonFinite constants64 faultFactor networkFault lengths faultShort compileFault refused accepted compiled injected withdrawn pInjection qInjection cost ownObjective flows outputs largest largestWhere pBalanceCheck qBalanceCheck activeBalance reactiveBalance thermalLimits variableBounds referenceAngles angleLimits epigraphs objectiveDifference residuals tolerances solved faultOutput faultPoint faultSwing faultDerived faultResidual faultOf checkFault checked add sub mul div neg ofBits toBits toUnsigned ofInt round lt le eq ne d all sameList compiles prints starts compileRefuses answers finds cases wordAt bitsAt formed inputWords inputNumbers hexLine hexLines decimalWithin refusedLine networkText output
 all-right = tt
 
 -- the constants that the definitions name by their bits are 0, 0.5, 1, 1024, 1e19 and 1e-6

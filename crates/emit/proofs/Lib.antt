@@ -1,4 +1,3 @@
-pub mod Writers
 pub mod Tokens
 pub mod Pieces
 pub mod Whole

@@ -18,9 +18,9 @@ use Rattle.nl.specs.Expr.{Expr, Terms, none, more, constant, column, shared, ov
 use Rattle.nl.specs.File.{partWords}
 use Rattle.acopf.specs.Build.{terms}
 use Rattle.emit.specs.declared.pen.Pen.{Pen}
-use Rattle.emit.specs.Wrote.{Wrote}
+use Rattle.base.specs.Section.{Wrote}
 use Rattle.emit.specs.Tokens.{Token, fixed, numbered, begins, wordsFrom, numbersOf, begun, tokens, tokensOf, listTokens, partTokens, throughBits, Penned, Room}
-use Rattle.emit.proofs.Writers.{then, wrote-none}
+use Rattle.base.proofs.Sections.{then, wrote-none}
 
 -- ---- tokens of a list
 
@@ -60,7 +60,7 @@ penned-none w c p = record { words = wrote-none w (p .word); numbers = wrote-non
 pub pen-then : {w m w′ : List ℕ} {c n c′ : List Float} {p q p′ : Pen} {u v : List Token} → Penned w c p u m n q → Penned m n q v w′ c′ p′ → Penned w c p (u ++ v) w′ c′ p′
 pen-then {w} {m} {w′} {c} {n} {c′} {p} {q} {p′} {u} {v} a b = record {
   words = subst (λ (l : List ℕ). Wrote w (p .word) l w′ (p′ .word))
-      (rw (a .numbers .next, a .parts) (sym (words-append (p .constant) (p .part) u v)))
+      (rw (a .numbers .follows, a .parts) (sym (words-append (p .constant) (p .part) u v)))
       (then (a .words) (b .words));
   numbers = subst (λ (l : List Float). Wrote c (p .constant) l c′ (p′ .constant)) (sym (numbers-append u v)) (then (a .numbers) (b .numbers));
   parts = omega (arith, a .parts, b .parts, begun-append u v);
@@ -76,9 +76,9 @@ room-first u v r = record {
 
 pub room-then : {w m : List ℕ} {c n : List Float} {p q : Pen} (u v : List Token) → Room w c p (u ++ v) → Penned w c p u m n q → length m ≡ length w → length n ≡ length c → Room m n q v
 room-then {p = p} u v r a e d = record {
-  words = omega (arith, r .words, length-append u v, a .words .next, length-words (p .constant) (p .part) u);
-  numbers = omega (arith, r .numbers, ap length (numbers-append u v), length-append (numbersOf u) (numbersOf v), a .numbers .next);
-  constants = omega (arith, r .constants, ap length (numbers-append u v), length-append (numbersOf u) (numbersOf v), a .numbers .next);
+  words = omega (arith, r .words, length-append u v, a .words .follows, length-words (p .constant) (p .part) u);
+  numbers = omega (arith, r .numbers, ap length (numbers-append u v), length-append (numbersOf u) (numbersOf v), a .numbers .follows);
+  constants = omega (arith, r .constants, ap length (numbers-append u v), length-append (numbersOf u) (numbersOf v), a .numbers .follows);
   parts = omega (arith, r .parts, begun-append u v, a .parts);
 }
 

@@ -31,7 +31,7 @@ use Rattle.factor.proofs.Chain.{start-at}
 use Rattle.factor.proofs.Sizes.{objectiveWords, count-of-words}
 use Rattle.factor.proofs.Steps.{segments-none, segments-next, epigraphs-le}
 use Rattle.emit.specs.declared.pen.Pen.{Pen}
-use Rattle.emit.specs.Wrote.{Wrote}
+use Rattle.base.specs.Section.{Wrote}
 use Rattle.emit.specs.Tokens.{Token, fixed, numbered, begins, wordsFrom, numbersOf, begun, tokens, listTokens, partTokens, Penned, Room}
 use Rattle.emit.specs.Sized.{Sized}
 use Rattle.emit.specs.Parts.{sharedTokens}
@@ -39,7 +39,7 @@ use Rattle.emit.specs.Balance.{balanceOf}
 use Rattle.emit.specs.Rows.{angleTokens, thermalTokens, curveTokens}
 use Rattle.emit.specs.Objective.{sumHead, costCount, objectiveTokens}
 use Rattle.emit.specs.Whole.{busRows, branchRows, rowTokens}
-use Rattle.emit.proofs.Writers.{then}
+use Rattle.base.proofs.Sections.{then}
 use Rattle.emit.proofs.Tokens.{map-append, numbers-append, words-append, length-words, parts-append, parts-each, parts-table, each-through, each-same, each-zero, table-each, list-terms, list-each, part-words-are, part-numbers-are, words-are, numbers-are}
 use Rattle.emit.proofs.Pieces.{branch-is}
 
@@ -231,15 +231,15 @@ module _ (u v : List Token) (ws : List ℕ) (cs : List Float) (ew : ws ≡ words
 
   pub room-rows : {w m : List ℕ} {c n : List Float} {q : Pen} → length ws ≤ length w → length cs ≤ length c → length ws ≤ 268435456 → Penned w c begin u m n q → length m ≡ length w → length n ≡ length c → Room m n (again-from q) v
   room-rows a b d p e f = record {
-    words = omega (arith, lw, a, e, p .words .next, length-words 0 0 u);
-    numbers = omega (arith, lc, b, f, p .numbers .next);
-    constants = omega (arith, lw, numbers-le u, numbers-le v, d, p .numbers .next);
+    words = omega (arith, lw, a, e, p .words .follows, length-words 0 0 u);
+    numbers = omega (arith, lc, b, f, p .numbers .follows);
+    constants = omega (arith, lw, numbers-le u, numbers-le v, d, p .numbers .follows);
     parts = omega (arith, lw, begun-le v, d);
   }
 
   pub both-words : {w m w′ : List ℕ} {c n c′ : List Float} {q p : Pen} → Penned w c begin u m n q → Penned m n (again-from q) v w′ c′ p → Wrote w 0 ws w′ (p .word)
   both-words {w = w} {w′ = w′} {q = q} {p = p} a b =
-      let e : q .constant ≡ length (numbersOf u) = a .numbers .next ∙ zero-add _ in
+      let e : q .constant ≡ length (numbersOf u) = a .numbers .follows ∙ zero-add _ in
       rw ew (rw e at (then (a .words) (b .words)))
 
   pub both-numbers : {w m w′ : List ℕ} {c n c′ : List Float} {q p : Pen} → Penned w c begin u m n q → Penned m n (again-from q) v w′ c′ p → Wrote c 0 cs c′ (p .constant)

@@ -1,4 +1,3 @@
-pub mod Wrote
 pub mod Tokens
 pub mod Sized
 pub mod Parts

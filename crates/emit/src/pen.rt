@@ -3,7 +3,7 @@
 ghost use mathlib.Core.List.{map};
 ghost use Prim.Native.Nat.{_+_, _≤_};
 ghost use lib.ListN.{length};
-ghost use Rattle.emit.specs.Wrote.{Wrote};
+ghost use Rattle.base.specs.Section.{Wrote};
 ghost use Rattle.emit.specs.Tokens.{Put, throughBits};
 
 pub struct Pen {

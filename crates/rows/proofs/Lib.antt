@@ -1,3 +1,2 @@
-pub mod Sections
 pub mod Sides
 pub mod Steps

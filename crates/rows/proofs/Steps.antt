@@ -19,9 +19,9 @@ use Rattle.factor.specs.NonFinite.{segmentsBefore}
 use Rattle.factor.proofs.Chain.{start-is, start-at}
 use Rattle.factor.proofs.Sizes.{ratings, count-rows}
 use Rattle.factor.proofs.Steps.{tally-next}
-use Rattle.rows.specs.Section.{Wrote}
+use Rattle.base.specs.Section.{Wrote}
 use Rattle.rows.specs.Bounds.{angleBounds, rowBounds}
-use Rattle.rows.proofs.Sections.{wrote-none, wrote-each, wrote-front, then}
+use Rattle.base.proofs.Sections.{wrote-none, each-next, wrote-front, then}
 use Rattle.rows.proofs.Sides.{length-angles, length-bounds}
 
 pub angled-is : (ws : List ℕ) (b : ℕ) {n k : ℕ} {on : Bool} → n ≡ buses ws → k ≡ generators ws → on ≡ branchAngled (getD ws (1 + n + k + b) 0) → on ≡ angled ws b
@@ -39,7 +39,7 @@ module _ (ws : List ℕ) (xs : List Float) (offset : ℕ) where
       → Wrote l at (angleBounds ws xs offset b) m j → Wrote m j (keep on (getD xs (start + 11 * b + offset) nan)) l′ next
       → Wrote l at (angleBounds ws xs offset (b + 1)) l′ next
   unfolding angleBounds branchAt
-  angles-turn b f s h p q = wrote-each (λ b. keep (angled ws b) (number xs (branchAt ws b + offset))) b p (rw (s, f, h) at q)
+  angles-turn b f s h p q = each-next (λ b. keep (angled ws b) (number xs (branchAt ws b + offset))) b p (rw (s, f, h) at q)
 
   -- there is room for one more where it is active
   pub angles-room : (b count : ℕ) {at j : ℕ} {l m : List Float} {on : Bool} → on ≡ angled ws b → b < count → at + tally count (angled ws) ≤ length l
@@ -47,7 +47,7 @@ module _ (ws : List ℕ) (xs : List Float) (offset : ℕ) where
   angles-room b count {at} {j} {l} {m} {on} h n r e p =
       rw h (omega (
         arith,
-        p .place,
+        p .follows,
         length-angles ws xs offset b,
         tally-bit b (angled ws),
         tally-up (suc b) count (angled ws) n,

@@ -1,6 +1,7 @@
 // The rows' bounds: those of balances and references are 0, those of angle differences are the table's, and every later row is a margin from 0 up.
 use crate::section::fill;
 use crate::section::put_active;
+use factor::counted;
 use factor::rated_count;
 use factor::segment_count;
 use network::Sizes;
@@ -17,19 +18,8 @@ ghost use Rattle.network.specs.Network.{buses, generators, branches, references
 ghost use Rattle.factor.specs.NonFinite.{segmentsBefore};
 ghost use Rattle.factor.proofs.Sizes.{spreads, ratings};
 ghost use Rattle.acopf.specs.Rows.{rows, rowLower, rowUpper};
-ghost use Rattle.rows.specs.Section.{Wrote};
+ghost use Rattle.base.specs.Section.{Wrote};
 ghost use Rattle.rows.specs.Bounds.{angleBounds, rowBounds};
-
-// One more where the test holds.
-fn counted(count: usize, test: bool) -> usize
-    requires { ⌜ count ≤ 0xffff ⌝ }
-    ensures { λ r. ⌜ (r ≡ cond test (suc count) count) × (r ≤ count + 1) ⌝ }
-{
-    if test {
-        return count + 1;
-    }
-    count
-}
 
 // How many of m branches have an active angle bound.
 pub fn angle_count(words: &[u32], n: usize, k: usize, m: usize) -> usize

@@ -3,7 +3,7 @@ ghost use mathlib.Core.Bool.{cond};
 ghost use Prim.Native.Nat.{_+_, _≤_};
 ghost use lib.ListN.{length, replicate};
 ghost use Rattle.base.specs.Loop.{keep};
-ghost use Rattle.rows.specs.Section.{Wrote};
+ghost use Rattle.base.specs.Section.{Wrote};
 
 // The value, `count` times.
 pub(crate) fn fill(out: &mut [f64], at: usize, count: usize, value: f64) -> usize

@@ -6,9 +6,9 @@ use Rattle.base.specs.Loop.{each}
 use Rattle.network.specs.Network.{generatorAt}
 use Rattle.network.proofs.Good.{generator-zero}
 use Rattle.factor.proofs.Steps.{room, generators-turn}
-use Rattle.columns.specs.Section.{Wrote}
+use Rattle.base.specs.Section.{Wrote}
 use Rattle.columns.specs.Value.{epigraphValue}
-use Rattle.columns.proofs.Section.{each-none, each-next}
+use Rattle.base.proofs.Sections.{each-none, each-next}
 use Rattle.columns.proofs.Value.{epigraphs-fit, epigraph-is}
 use borrow.Author.Needs.{needs}
 use Rattle.columns.proofs.sections.epigraph_starts.Statement.{statement}

@@ -1,5 +1,5 @@
 use native.Mathlib.Omega.{arith}
-use Rattle.columns.proofs.Section.{wrote-none, wrote-one}
+use Rattle.base.proofs.Sections.{wrote-none, wrote-one}
 use borrow.Author.Needs.{needs}
 use Rattle.columns.proofs.sections.put_if.Statement.{statement}
 use Rattle.columns.proofs.sections.put_if.Tie as tie

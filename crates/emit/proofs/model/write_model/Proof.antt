@@ -5,7 +5,7 @@ use Rattle.network.proofs.Good.{good}
 use Rattle.factor.proofs.Chain.{start-is}
 use Rattle.emit.specs.Parts.{sharedTokens}
 use Rattle.emit.specs.Whole.{rowTokens}
-use Rattle.emit.proofs.Writers.{wrote-front}
+use Rattle.base.proofs.Sections.{wrote-front}
 use Rattle.emit.proofs.Whole.{room-shared, room-rows, both-words, both-numbers, words-at, numbers-at, few-words, sized, starts}
 use Rattle.emit.proofs.model.write_model.Statement.{statement}
 use Rattle.emit.proofs.model.write_model.Tie as tie

@@ -6,9 +6,9 @@ use lib.ListN.{length, take}
 use lib.Seq.{take-length}
 use lib.Ieee.{nan}
 use borrow.Author.Needs.{needs}
-use Rattle.emit.specs.Wrote.{Wrote}
+use Rattle.base.specs.Section.{Wrote}
 use Rattle.emit.specs.Tokens.{throughBits}
-use Rattle.emit.proofs.Writers.{wrote-none, take-step}
+use Rattle.base.proofs.Sections.{wrote-none, take-step}
 use Rattle.emit.proofs.Tokens.{bits-take}
 use Rattle.emit.proofs.pen.put_numbers.Statement.{statement}
 use Rattle.emit.proofs.pen.put_numbers.Tie as tie

@@ -3,8 +3,8 @@ use native.Mathlib.Nat.{add-zero}
 use mathlib.Core.Path.{_≡_}
 use lib.ListN.{length, take}
 use borrow.Author.Needs.{needs}
-use Rattle.emit.specs.Wrote.{Wrote}
-use Rattle.emit.proofs.Writers.{wrote-none, take-step, take-done}
+use Rattle.base.specs.Section.{Wrote}
+use Rattle.base.proofs.Sections.{wrote-none, take-step, take-done}
 use Rattle.emit.proofs.pen.put_words.Statement.{statement}
 use Rattle.emit.proofs.pen.put_words.Tie as tie
 

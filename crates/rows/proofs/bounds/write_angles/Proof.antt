@@ -2,7 +2,7 @@ use native.Mathlib.Omega.{arith}
 use mathlib.Core.Path.{_≡_, refl}
 use Prim.Native.Nat.{_-_, _≤_}
 use lib.ListN.{length}
-use Rattle.rows.specs.Section.{Wrote}
+use Rattle.base.specs.Section.{Wrote}
 use Rattle.rows.specs.Bounds.{angleBounds}
 use Rattle.rows.proofs.Steps.{angled-is, angles-none, angles-turn, angles-room}
 use borrow.Author.Needs.{needs}

@@ -3,8 +3,8 @@ use native.Mathlib.Nat.{add-zero}
 use mathlib.Core.Path.{_≡_, refl}
 use Prim.Native.Nat.{_+_, _-_, _≤_}
 use lib.ListN.{length, length-set, replicate}
-use Rattle.rows.specs.Section.{Wrote}
-use Rattle.rows.proofs.Sections.{wrote-none, wrote-value}
+use Rattle.base.specs.Section.{Wrote}
+use Rattle.base.proofs.Sections.{wrote-none, wrote-value}
 use borrow.Author.Needs.{needs}
 use Rattle.rows.proofs.section.fill.Statement.{statement}
 use Rattle.rows.proofs.section.fill.Tie as tie

@@ -1,5 +1,5 @@
 use native.Mathlib.Omega.{arith}
-use Rattle.rows.proofs.Sections.{wrote-none, wrote-one}
+use Rattle.base.proofs.Sections.{wrote-none, wrote-one}
 use borrow.Author.Needs.{needs}
 use Rattle.rows.proofs.section.put_active.Statement.{statement}
 use Rattle.rows.proofs.section.put_active.Tie as tie

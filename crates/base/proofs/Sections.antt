@@ -1,17 +1,17 @@
 -- Laws of sections: none, one element, one section after the other, and one turn of each loop that writes a section.
-use mathlib.Core.Path.{_≡_, refl, sym, ap, _∙_}
+use mathlib.Core.Path.{_≡_, refl, sym, ap, subst, _∙_}
 use mathlib.Core.Bool.{Bool, true, false}
 use mathlib.Core.List.{List, [], _∷_, _++_}
 use Prim.Native.Nat.{ℕ, zero, suc, _+_, _≤_, _<_}
-use native.Mathlib.Nat.{add-zero, zero-add, add-suc, suc-add}
+use native.Mathlib.Nat.{add-zero, zero-add, add-suc, suc-add, add-assoc}
 use native.Mathlib.Numerals.{add-one}
 use native.Mathlib.Omega.{arith}
 use lib.Dec.{eqb}
-use lib.ListN.{length, length-append, drop, set}
-use lib.Seq.{sets, sets-eq}
+use lib.ListN.{length, length-append, drop, take, set, getD, replicate, replicate-append-replicate}
+use lib.Seq.{take-suc, take-length, sets, sets-eq}
 use borrow.Author.Tests.{eqb-true, eqb-false}
 use Rattle.base.specs.Loop.{loop, table, each}
-use Rattle.columns.specs.Section.{Wrote}
+use Rattle.base.specs.Section.{Wrote}
 
 module _ {A : Type 0} where
   sets-sets : (u v l : List A) (i : ℕ) → sets (sets l i u) (i + length u) v ≡ sets l i (u ++ v)
@@ -37,6 +37,26 @@ module _ {A : Type 0} where
   wrote-front {l} {l′} {u} p h =
       let e : 0 + length u ≡ length u = zero-add (length u) in
       p .holds ∙ rw e at (sets-eq u l 0 (rw e h))
+
+  -- ---- a copy, one element a turn
+
+  pub take-step : {l m : List A} {to : ℕ} (part : List A) (i : ℕ) (d : A) → i < length part → Wrote l to (take i part) m (to + i)
+      → Wrote l to (take (i + 1) part) (set m (to + i) (getD part i d)) (to + (i + 1))
+  take-step {l} {m} {to} part i d h p =
+      let e : take i part ++ (getD part i d ∷ []) ≡ take (i + 1) part = sym (ap (λ k. take k part) (add-one i) ∙ take-suc part i d h) in
+      subst (λ t. Wrote l to t (set m (to + i) (getD part i d)) (to + (i + 1))) e
+      (subst (λ k. Wrote l to (take i part ++ (getD part i d ∷ [])) (set m (to + i) (getD part i d)) k) (add-assoc to i 1)
+      (then p (wrote-one m (to + i) (getD part i d))))
+
+  pub take-done : {l m : List A} {to k : ℕ} (part : List A) (i : ℕ) → i ≡ length part → Wrote l to (take i part) m k → Wrote l to part m k
+  take-done {l} {m} {to} {k} part i e p = subst (λ t. Wrote l to t m k) (ap (λ n. take n part) e ∙ take-length part) p
+
+  -- ---- one value, again and again
+
+  pub wrote-value : {l m : List A} {to : ℕ} (i : ℕ) (a : A) → Wrote l to (replicate i a) m (to + i) → Wrote l to (replicate (i + 1) a) (set m (to + i) a) (to + (i + 1))
+  wrote-value {l} {m} {to} i a p =
+      let e : to + (i + 1) ≡ to + i + 1 = omega arith in
+      rw (← replicate-append-replicate i 1 a, e) (then p (wrote-one m (to + i) a))
 
   -- ---- a table, one element a turn
 

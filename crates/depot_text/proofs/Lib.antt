@@ -1,0 +1,4 @@
+pub mod Writes
+pub mod Inputs
+pub mod Decimals
+pub mod Texts

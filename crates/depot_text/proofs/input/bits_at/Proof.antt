@@ -1,0 +1,43 @@
+use native.Mathlib.Omega.{arith}
+use borrow.Author.Needs.{needs}
+use Rattle.depot_text.specs.Input.{bitsAt}
+use Rattle.depot_text.proofs.input.bits_at.Statement.{statement}
+use Rattle.depot_text.proofs.input.bits_at.Tie as tie
+
+word-at-requires : tie.Need-word-at-requires
+word-at-requires c κs = search needs
+
+cast-result : tie.Need-cast-result
+cast-result c = search needs
+
+add-word-at : tie.Need-add-word-at
+add-word-at c = search needs
+
+word-at-requires-2 : tie.Need-word-at-requires-2
+word-at-requires-2 c κs = search needs
+
+cast-result-2 : tie.Need-cast-result-2
+cast-result-2 c = search needs
+
+mul-result : tie.Need-mul-result
+mul-result c = search needs
+
+add-result : tie.Need-add-result
+add-result c = search needs
+
+returns : tie.Need-returns
+unfolding bitsAt
+returns c = omega arith
+
+pub bits-at-spec : {M : Type 1} → statement M
+bits-at-spec =
+    tie.close
+    (tie.spec
+    word-at-requires
+    cast-result
+    add-word-at
+    word-at-requires-2
+    cast-result-2
+    mul-result
+    add-result
+    returns)

@@ -1,0 +1,35 @@
+-- Document 01, "Depot M": "counts of words and numbers (32-bit), then both lists, little-endian, from standard input (at most 16 KiB)".
+use mathlib.Core.Bool.{Bool, _&&_}
+use mathlib.Core.List.{List}
+use Prim.Native.Nat.{ℕ, _+_, _*_}
+use lib.ListN.{length, getD}
+use lib.Dec.{eqb, leb}
+use lib.Ieee.{Float, binary64, ofBits}
+use Rattle.base.specs.Loop.{table}
+
+-- 32 and 64 bits, little-endian, from byte `at` on, and the number of that 64-bit pattern
+unfoldable pub wordAt : List ℕ → ℕ → ℕ
+wordAt bytes at = getD bytes at 0 + getD bytes (at + 1) 0 * 0x100 + getD bytes (at + 2) 0 * 0x1_0000 + getD bytes (at + 3) 0 * 0x100_0000
+
+unfoldable pub bitsAt : List ℕ → ℕ → ℕ
+bitsAt bytes at = wordAt bytes at + wordAt bytes (at + 4) * 0x1_0000_0000
+
+abbrev pub numberAt : List ℕ → ℕ → Float
+numberAt bytes at = ofBits binary64 (bitsAt bytes at)
+
+module _ (bytes : List ℕ) where
+  abbrev pub wordCount : ℕ
+  wordCount = wordAt bytes 0
+
+  abbrev pub numberCount : ℕ
+  numberCount = wordAt bytes 4
+
+  -- not "a length below 8 bytes, above 16 KiB or other than the counts need"
+  unfoldable pub formed : Bool
+  formed = leb 8 (length bytes) && leb (length bytes) 16384 && eqb (length bytes) (8 + 4 * wordCount + 8 * numberCount)
+
+  unfoldable pub inputWords : List ℕ
+  inputWords = table wordCount (λ i. wordAt bytes (8 + 4 * i))
+
+  unfoldable pub inputNumbers : List Float
+  inputNumbers = table numberCount (λ i. numberAt bytes (8 + 4 * wordCount + 8 * i))
