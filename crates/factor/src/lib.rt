@@ -6,6 +6,7 @@ mod factor;
 pub use columns::generator_start;
 pub use columns::lower_bound;
 pub use columns::upper_bound;
+pub use count::counted;
 pub use count::epigraph_count;
 pub use count::is_curved;
 pub use count::is_rated;

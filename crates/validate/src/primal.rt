@@ -1,78 +1,26 @@
 // validate_primal's verdict: refusals 1 to 16 in document 01's order, and the outputs of an accepted point.
+use base::Fault;
 use crate::Checked;
-use crate::derived::balances;
-use crate::derived::derived_fault;
-use crate::derived::flows;
-use crate::derived::injections;
-use crate::derived::own_objective;
-use crate::derived::write_outputs;
-use crate::eight::residuals_of;
 use crate::point::columns_of;
 use crate::point::output_fault;
 use crate::point::point_fault;
 use crate::point::swing_fault;
 use crate::tolerance::residual_fault;
-use base::Fault;
+use derived::derived_fault;
+use derived::flows;
+use derived::injections;
+use derived::own_objective;
+use derived::write_outputs;
 use factor::network_fault;
 use network::sizes_of;
+use residuals::residuals_at;
 ghost use mathlib.Core.Path.{_≡_};
 ghost use Prim.Native.Nat.{_+_, _*_, _≤_};
 ghost use lib.ListN.{length};
 ghost use Rattle.network.specs.Network.{buses, generators, branches, references};
-ghost use Rattle.validate.specs.Agree.{Agrees, Ready};
+ghost use Rattle.derived.specs.Agree.{Ready};
 ghost use Rattle.validate.specs.Check.{checked, outputsAfter};
-ghost use Rattle.validate.specs.Outputs.{pInjection, qInjection, flows, ownObjective};
-ghost use Rattle.validate.specs.Residuals.{residuals};
-ghost use Rattle.validate.specs.Scratch.{FlowsAre};
 ghost use Rattle.validate.specs.Verdict.{Cleared, refusal};
-
-// The residuals, from the injections and the flows; the balances are worked out on copies.
-fn residuals_at(
-    words: &[u32],
-    numbers: &[f64],
-    point: &[f64],
-    n: usize,
-    k: usize,
-    m: usize,
-    count: usize,
-    p_from: &[f64],
-    q_from: &[f64],
-    p_to: &[f64],
-    q_to: &[f64],
-    p: [f64; 256],
-    q: [f64; 256],
-    solver: f64,
-    own: f64,
-) -> [f64; 8]
-    requires { ⌜ (Ready (now words) (now numbers) (now point)) × (n ≡ buses (now words)) × (k ≡ generators (now words)) × (m ≡ branches (now words)) × (count ≡ references (now words))
-        × (m ≤ length (now «p_from»)) × (m ≤ length (now «q_from»)) × (m ≤ length (now «p_to»)) × (m ≤ length (now «q_to»))
-        × (FlowsAre (now words) (now numbers) (now point) (branches (now words)) (now «p_from») (now «q_from») (now «p_to») (now «q_to»))
-        × (Agrees (buses (now words)) (pInjection (now words) (now numbers) (now point)) p) × (Agrees (buses (now words)) (qInjection (now words) (now numbers) (now point)) q)
-        × (own ≡ ownObjective (now words) (now numbers) (now point)) × (n ≤ length p) × (n ≤ length q) ⌝ }
-    ensures { λ r. ⌜ r ≡ residuals (now (words .entry)) (now (numbers .entry)) (now (point .entry)) (flows (now (words .entry)) (now (numbers .entry)) (now (point .entry))) solver ⌝ }
-{
-    let mut pb = p;
-    let mut qb = q;
-    balances(words, n, k, m, p_from, p_to, &mut pb);
-    balances(words, n, k, m, q_from, q_to, &mut qb);
-    residuals_of(
-        words,
-        numbers,
-        point,
-        n,
-        k,
-        m,
-        count,
-        p_from,
-        q_from,
-        p_to,
-        q_to,
-        &pb,
-        &qb,
-        solver,
-        own,
-    )
-}
 
 fn refused(f: Fault) -> Checked
     ensures { λ r. ⌜ r ≡ refusal f ⌝ }
