@@ -21,13 +21,7 @@ fn generator_cost(numbers: &[f64], at: usize, points: usize, curve: bool, p: f64
     0.5 * numbers[at + 4] * (p * p) + numbers[at + 5] * p + numbers[at + 6]
 }
 
-pub fn own_objective(
-    words: &[u32],
-    numbers: &[f64],
-    point: &[f64],
-    n: usize,
-    k: usize,
-) -> f64
+pub fn own_objective(words: &[u32], numbers: &[f64], point: &[f64], n: usize, k: usize) -> f64
     requires { ⌜ (Ready (now words) (now numbers) (now point)) × (n ≡ buses (now words)) × (k ≡ generators (now words)) ⌝ }
     ensures { λ r. ⌜ r ≡ ownObjective (now (words .entry)) (now (numbers .entry)) (now (point .entry)) ⌝ }
 {

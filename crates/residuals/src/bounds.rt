@@ -1,6 +1,4 @@
 // Residual 3, variable bounds: the columns by section, va, vm, pg, qg, epigraphs. Each section goes on from the largest before it.
-use crate::columns::generator_lower;
-use crate::columns::generator_upper;
 use crate::columns::vm_lower;
 use crate::columns::vm_upper;
 ghost use mathlib.Core.Path.{_≡_};
@@ -68,8 +66,9 @@ fn generator_bounds(
     let mut g = 0usize;
     while g < k {
         let w = words[1 + n + g];
-        let lower = generator_lower(numbers, w, at + part);
-        let upper = generator_upper(numbers, w, at + part + 1);
+        let bounded = network::generator_bounded(w);
+        let lower = factor::lower_bound(bounded, numbers[at + part]);
+        let upper = factor::upper_bound(bounded, numbers[at + part + 1]);
         most = float::maximum(
             most,
             network::positive_violation(point[from + g], lower, upper),

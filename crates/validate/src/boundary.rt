@@ -1,6 +1,6 @@
 // The check across the C boundary: each function returns one number of the answer, and leaves the output list as `check` does.
-use base::Fault;
 use crate::primal::check;
+use base::Fault;
 ghost use mathlib.Core.Path.{_≡_};
 ghost use lib.ListN.{length};
 ghost use Rattle.base.specs.Fault.{fault, packed};

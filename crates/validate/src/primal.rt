@@ -1,11 +1,11 @@
 // validate_primal's verdict: refusals 1 to 16 in document 01's order, and the outputs of an accepted point.
-use base::Fault;
 use crate::Checked;
 use crate::point::columns_of;
 use crate::point::output_fault;
 use crate::point::point_fault;
 use crate::point::swing_fault;
 use crate::tolerance::residual_fault;
+use base::Fault;
 use derived::derived_fault;
 use derived::flows;
 use derived::injections;

@@ -17,76 +17,120 @@ Inv-loop words numbers point n k from part start most₀ at₀ g₀ most at g = 
 abbrev μ-loop : tie.MeasureT-loop
 μ-loop words numbers point n k from part start most₀ at₀ g₀ most at g = k - g
 
+-- src/bounds.rt:65:18
 mul-at : tie.Need-mul-at Inv-loop μ-loop
 mul-at c = search needs
 
+-- src/bounds.rt:67:5
 loop-holds : tie.Need-loop-holds Inv-loop μ-loop
 loop-holds c = (omega arith, rw (c .before .before .before .pre .1) (sym (generator-zero _)), with-none _ _)
 
+-- src/bounds.rt:68:23
 add-w : tie.Need-add-w Inv-loop μ-loop
 add-w c = search needs
 
+-- src/bounds.rt:68:23
 add-w-2 : tie.Need-add-w-2 Inv-loop μ-loop
 add-w-2 c = search needs
 
+-- src/bounds.rt:68:17
 mul-w : tie.Need-mul-w Inv-loop μ-loop
 mul-w c = search needs
 
+-- src/bounds.rt:68:17
 shared-slice-read-w : tie.Need-shared-slice-read-w Inv-loop μ-loop
 shared-slice-read-w c = search needs
 
-add-generator-lower : tie.Need-add-generator-lower Inv-loop μ-loop
-add-generator-lower c = omega (arith, c .before .before .before .before .before .before .pre .4, c .before .before .before .before .before .before .pre .0 .good .generator-fits (c .before .before .loop .g) (omega (arith, c .before .before .before .before .before .before .pre .2, c .before .loop-test .taken)), c .before .before .loop .inv .1)
+-- src/bounds.rt:69:13
+generator-bounded-requires : tie.Need-generator-bounded-requires Inv-loop μ-loop
+generator-bounded-requires c κs = search needs
 
-generator-lower-requires : tie.Need-generator-lower-requires Inv-loop μ-loop
-generator-lower-requires c κs = omega (arith, c .before .before .before .before .before .before .pre .4, c .before .before .before .before .before .before .pre .0 .good .generator-fits (c .before .before .loop .g) (omega (arith, c .before .before .before .before .before .before .pre .2, c .before .loop-test .taken)), c .before .before .loop .inv .1)
+-- src/bounds.rt:70:58
+add-lower-bound : tie.Need-add-lower-bound Inv-loop μ-loop
+add-lower-bound c = omega (arith, c .before .before .before .before .before .before .before .pre .4, c .before .before .before .before .before .before .before .pre .0 .good .generator-fits (c .before .before .before .loop .g) (omega (arith, c .before .before .before .before .before .before .before .pre .2, c .before .before .loop-test .taken)), c .before .before .before .loop .inv .1)
 
-add-generator-upper : tie.Need-add-generator-upper Inv-loop μ-loop
-add-generator-upper c = omega (arith, c .before .before .before .before .before .before .before .pre .4, c .before .before .before .before .before .before .before .pre .0 .good .generator-fits (c .before .before .before .loop .g) (omega (arith, c .before .before .before .before .before .before .before .pre .2, c .before .before .loop-test .taken)), c .before .before .before .loop .inv .1)
+-- src/bounds.rt:70:50
+mul-lower-bound : tie.Need-mul-lower-bound Inv-loop μ-loop
+mul-lower-bound c = omega (arith, c .before .before .before .before .before .before .before .pre .4, c .before .before .before .before .before .before .before .pre .0 .good .generator-fits (c .before .before .before .loop .g) (omega (arith, c .before .before .before .before .before .before .before .pre .2, c .before .before .loop-test .taken)), c .before .before .before .loop .inv .1, c .before .before .before .before .before .before .before .pre .0 .good .numbers, c .before .before .before .before .before .before .before .pre .0 .good .few-numbers)
 
-add-generator-upper-2 : tie.Need-add-generator-upper-2 Inv-loop μ-loop
-add-generator-upper-2 c = omega (arith, c .before .before .before .before .before .before .before .pre .4, c .before .before .before .before .before .before .before .pre .0 .good .generator-fits (c .before .before .before .loop .g) (omega (arith, c .before .before .before .before .before .before .before .pre .2, c .before .before .loop-test .taken)), c .before .before .before .loop .inv .1)
+-- src/bounds.rt:70:50
+shared-slice-read-lower-bound : tie.Need-shared-slice-read-lower-bound Inv-loop μ-loop
+shared-slice-read-lower-bound c = omega (arith, c .before .before .before .before .before .before .before .before .pre .4, c .before .before .before .before .before .before .before .before .pre .0 .good .generator-fits (c .before .before .before .before .loop .g) (omega (arith, c .before .before .before .before .before .before .before .before .pre .2, c .before .before .before .loop-test .taken)), c .before .before .before .before .loop .inv .1)
 
-generator-upper-requires : tie.Need-generator-upper-requires Inv-loop μ-loop
-generator-upper-requires c κs = omega (arith, c .before .before .before .before .before .before .before .pre .4, c .before .before .before .before .before .before .before .pre .0 .good .generator-fits (c .before .before .before .loop .g) (omega (arith, c .before .before .before .before .before .before .before .pre .2, c .before .before .loop-test .taken)), c .before .before .before .loop .inv .1)
+-- src/bounds.rt:70:13
+lower-bound-requires : tie.Need-lower-bound-requires Inv-loop μ-loop
+lower-bound-requires c κs = search needs
 
+-- src/bounds.rt:71:58
+add-upper-bound : tie.Need-add-upper-bound Inv-loop μ-loop
+add-upper-bound c = omega (arith, c .before .before .before .before .before .before .before .before .before .pre .4, c .before .before .before .before .before .before .before .before .before .pre .0 .good .generator-fits (c .before .before .before .before .before .loop .g) (omega (arith, c .before .before .before .before .before .before .before .before .before .pre .2, c .before .before .before .before .loop-test .taken)), c .before .before .before .before .before .loop .inv .1)
+
+-- src/bounds.rt:71:58
+add-upper-bound-2 : tie.Need-add-upper-bound-2 Inv-loop μ-loop
+add-upper-bound-2 c = omega (arith, c .before .before .before .before .before .before .before .before .before .pre .4, c .before .before .before .before .before .before .before .before .before .pre .0 .good .generator-fits (c .before .before .before .before .before .loop .g) (omega (arith, c .before .before .before .before .before .before .before .before .before .pre .2, c .before .before .before .before .loop-test .taken)), c .before .before .before .before .before .loop .inv .1)
+
+-- src/bounds.rt:71:50
+mul-upper-bound : tie.Need-mul-upper-bound Inv-loop μ-loop
+mul-upper-bound c = omega (arith, c .before .before .before .before .before .before .before .before .before .pre .4, c .before .before .before .before .before .before .before .before .before .pre .0 .good .generator-fits (c .before .before .before .before .before .loop .g) (omega (arith, c .before .before .before .before .before .before .before .before .before .pre .2, c .before .before .before .before .loop-test .taken)), c .before .before .before .before .before .loop .inv .1, c .before .before .before .before .before .before .before .before .before .pre .0 .good .numbers, c .before .before .before .before .before .before .before .before .before .pre .0 .good .few-numbers)
+
+-- src/bounds.rt:71:50
+shared-slice-read-upper-bound : tie.Need-shared-slice-read-upper-bound Inv-loop μ-loop
+shared-slice-read-upper-bound c = omega (arith, c .before .before .before .before .before .before .before .before .before .before .pre .4, c .before .before .before .before .before .before .before .before .before .before .pre .0 .good .generator-fits (c .before .before .before .before .before .before .loop .g) (omega (arith, c .before .before .before .before .before .before .before .before .before .before .pre .2, c .before .before .before .before .before .loop-test .taken)), c .before .before .before .before .before .before .loop .inv .1)
+
+-- src/bounds.rt:71:13
+upper-bound-requires : tie.Need-upper-bound-requires Inv-loop μ-loop
+upper-bound-requires c κs = search needs
+
+-- src/bounds.rt:74:47
 add-positive-violation : tie.Need-add-positive-violation Inv-loop μ-loop
 add-positive-violation c = search needs
 
+-- src/bounds.rt:74:41
 mul-positive-violation : tie.Need-mul-positive-violation Inv-loop μ-loop
 mul-positive-violation c = search needs
 
+-- src/bounds.rt:74:41
 shared-slice-read-positive-violation :
     tie.Need-shared-slice-read-positive-violation Inv-loop μ-loop
 shared-slice-read-positive-violation c = search needs
 
+-- src/bounds.rt:74:13
 positive-violation-requires : tie.Need-positive-violation-requires Inv-loop μ-loop
 positive-violation-requires c κs = search needs
 
+-- src/bounds.rt:72:9
 maximum-requires : tie.Need-maximum-requires Inv-loop μ-loop
 maximum-requires c κs = search needs
 
+-- src/bounds.rt:76:23
 generator-points-requires : tie.Need-generator-points-requires Inv-loop μ-loop
 generator-points-requires c κs = search needs
 
+-- src/bounds.rt:76:19
 mul-at-2 : tie.Need-mul-at-2 Inv-loop μ-loop
-mul-at-2 c = omega (arith, curve-room (c .before .before .before .before .before .before .before .before .before .before .before .before .args .words .now) (c .before .before .before .before .before .before .before .before .before .before .before .before .args .numbers .now) (c .before .before .before .before .before .before .before .before .before .before .before .before .args .point .now) _ _ _ _ (c .before .before .before .before .before .before .before .before .before .before .before .before .pre .1) (c .before .before .before .before .before .before .before .before .before .before .before .before .pre .2) (c .generator-points .ensures) _ (c .before .before .before .before .before .before .before .before .loop .inv .1) (c .before .before .before .before .before .before .before .before .before .before .before .before .pre .0 .good) (c .before .before .before .before .before .before .before .loop-test .taken))
+mul-at-2 c = omega (arith, curve-room (c .before .before .before .before .before .before .before .before .before .before .before .before .before .before .before .args .words .now) (c .before .before .before .before .before .before .before .before .before .before .before .before .before .before .before .args .numbers .now) (c .before .before .before .before .before .before .before .before .before .before .before .before .before .before .before .args .point .now) _ _ _ _ (c .before .before .before .before .before .before .before .before .before .before .before .before .before .before .before .pre .1) (c .before .before .before .before .before .before .before .before .before .before .before .before .before .before .before .pre .2) (c .generator-points .ensures) _ (c .before .before .before .before .before .before .before .before .before .before .before .loop .inv .1) (c .before .before .before .before .before .before .before .before .before .before .before .before .before .before .before .pre .0 .good) (c .before .before .before .before .before .before .before .before .before .before .loop-test .taken))
 
+-- src/bounds.rt:76:15
 add-at : tie.Need-add-at Inv-loop μ-loop
-add-at c = omega (arith, curve-room (c .before .before .before .before .before .before .before .before .before .before .before .before .args .words .now) (c .before .before .before .before .before .before .before .before .before .before .before .before .args .numbers .now) (c .before .before .before .before .before .before .before .before .before .before .before .before .args .point .now) _ _ _ _ (c .before .before .before .before .before .before .before .before .before .before .before .before .pre .1) (c .before .before .before .before .before .before .before .before .before .before .before .before .pre .2) (c .generator-points .ensures) _ (c .before .before .before .before .before .before .before .before .loop .inv .1) (c .before .before .before .before .before .before .before .before .before .before .before .before .pre .0 .good) (c .before .before .before .before .before .before .before .loop-test .taken))
+add-at c = omega (arith, curve-room (c .before .before .before .before .before .before .before .before .before .before .before .before .before .before .before .args .words .now) (c .before .before .before .before .before .before .before .before .before .before .before .before .before .before .before .args .numbers .now) (c .before .before .before .before .before .before .before .before .before .before .before .before .before .before .before .args .point .now) _ _ _ _ (c .before .before .before .before .before .before .before .before .before .before .before .before .before .before .before .pre .1) (c .before .before .before .before .before .before .before .before .before .before .before .before .before .before .before .pre .2) (c .generator-points .ensures) _ (c .before .before .before .before .before .before .before .before .before .before .before .loop .inv .1) (c .before .before .before .before .before .before .before .before .before .before .before .before .before .before .before .pre .0 .good) (c .before .before .before .before .before .before .before .before .before .before .loop-test .taken))
 
+-- src/bounds.rt:76:9
 add-at-2 : tie.Need-add-at-2 Inv-loop μ-loop
-add-at-2 c = omega (arith, curve-room (c .before .before .before .before .before .before .before .before .before .before .before .before .args .words .now) (c .before .before .before .before .before .before .before .before .before .before .before .before .args .numbers .now) (c .before .before .before .before .before .before .before .before .before .before .before .before .args .point .now) _ _ _ _ (c .before .before .before .before .before .before .before .before .before .before .before .before .pre .1) (c .before .before .before .before .before .before .before .before .before .before .before .before .pre .2) (c .generator-points .ensures) _ (c .before .before .before .before .before .before .before .before .loop .inv .1) (c .before .before .before .before .before .before .before .before .before .before .before .before .pre .0 .good) (c .before .before .before .before .before .before .before .loop-test .taken))
+add-at-2 c = omega (arith, curve-room (c .before .before .before .before .before .before .before .before .before .before .before .before .before .before .before .args .words .now) (c .before .before .before .before .before .before .before .before .before .before .before .before .before .before .before .args .numbers .now) (c .before .before .before .before .before .before .before .before .before .before .before .before .before .before .before .args .point .now) _ _ _ _ (c .before .before .before .before .before .before .before .before .before .before .before .before .before .before .before .pre .1) (c .before .before .before .before .before .before .before .before .before .before .before .before .before .before .before .pre .2) (c .generator-points .ensures) _ (c .before .before .before .before .before .before .before .before .before .before .before .loop .inv .1) (c .before .before .before .before .before .before .before .before .before .before .before .before .before .before .before .pre .0 .good) (c .before .before .before .before .before .before .before .before .before .before .loop-test .taken))
 
+-- src/bounds.rt:77:9
 add-g : tie.Need-add-g Inv-loop μ-loop
 add-g c = search needs
 
+-- src/bounds.rt:67:5
 loop-less : tie.Need-loop-less Inv-loop μ-loop
 loop-less c = search needs
 
+-- src/bounds.rt:67:5
 loop-again : tie.Need-loop-again Inv-loop μ-loop
-loop-again c = (omega arith, omega (arith, generator-turn (c .before .before .before .before .before .before .before .before .before .before .before .before .args .words .now) (c .before .before .before .before .before .before .before .before .before .before .before .before .args .n) (c .before .before .before .before .before .before .before .before .loop .g) (c .before .before .before .before .before .before .before .before .loop .at) (c .generator-points .result) (c .before .before .before .before .before .before .before .before .before .before .before .before .pre .1) (c .before .before .before .before .before .before .before .before .loop .inv .1) (c .generator-points .ensures)), with-next _ _ _ _ _ (c .before .before .before .before .before .before .before .before .loop .inv .2) (rw (c .before .maximum .ensures, c .before .before .positive-violation .ensures, c .before .before .before .before .generator-upper .ensures, c .before .before .before .before .before .generator-lower .ensures, c .before .before .before .before .before .before .before .before .before .before .before .before .pre .1, c .before .before .before .before .before .before .before .before .loop .inv .1)))
+loop-again c = (omega arith, omega (arith, generator-turn (c .before .before .before .before .before .before .before .before .before .before .before .before .before .before .before .args .words .now) (c .before .before .before .before .before .before .before .before .before .before .before .before .before .before .before .args .n) (c .before .before .before .before .before .before .before .before .before .before .before .loop .g) (c .before .before .before .before .before .before .before .before .before .before .before .loop .at) (c .generator-points .result) (c .before .before .before .before .before .before .before .before .before .before .before .before .before .before .before .pre .1) (c .before .before .before .before .before .before .before .before .before .before .before .loop .inv .1) (c .generator-points .ensures)), with-next _ _ _ _ _ (c .before .before .before .before .before .before .before .before .before .before .before .loop .inv .2) (rw (c .before .maximum .ensures, c .before .before .positive-violation .ensures, c .before .before .before .before .upper-bound .ensures, c .before .before .before .before .before .before .lower-bound .ensures, c .before .before .before .before .before .before .before .before .generator-bounded .ensures, c .before .before .before .before .before .before .before .before .before .before .before .before .before .before .before .pre .1, c .before .before .before .before .before .before .before .before .before .before .before .loop .inv .1)))
 
+-- src/bounds.rt:51:1
 returns : tie.Need-returns Inv-loop μ-loop
 returns c = let e : c .before .loop .g ≡ c .before .before .before .before .before .args .k = omega arith in rw e at (c .before .loop .inv .2)
 
@@ -102,11 +146,16 @@ generator-bounds-spec =
     add-w-2
     mul-w
     shared-slice-read-w
-    add-generator-lower
-    generator-lower-requires
-    add-generator-upper
-    add-generator-upper-2
-    generator-upper-requires
+    generator-bounded-requires
+    add-lower-bound
+    mul-lower-bound
+    shared-slice-read-lower-bound
+    lower-bound-requires
+    add-upper-bound
+    add-upper-bound-2
+    mul-upper-bound
+    shared-slice-read-upper-bound
+    upper-bound-requires
     add-positive-violation
     mul-positive-violation
     shared-slice-read-positive-violation
