@@ -19,7 +19,7 @@ use Rattle.derived.specs.Agree.{Agrees}
 use Rattle.derived.specs.Outputs.{pInjection, qInjection, ownObjective, flows, outputs}
 use Rattle.residuals.specs.Residuals.{residuals}
 use Rattle.derived.specs.Scratch.{FlowsAre, listed}
-use Rattle.validate.specs.Verdict.{Cleared, refusal}
+use Rattle.validate.specs.Verdict.{Cleared, Held, refusal}
 use Rattle.derived.proofs.Scratch.{listed-outputs}
 use Rattle.validate.proofs.Order.{derived-spans, residual-spans}
 use Rattle.derived.proofs.Outputs.{length-outputs}
@@ -101,21 +101,6 @@ module _ (ws : List ℕ) (xs x : List Float) (solver : Float) where
         rw (← k, eq-eqb (f .number) 0 n, q, o)
 
 -- ---- the three ways out, from the scratch lists
-
--- what the scratch lists hold, of the lengths that they have
-pub record Held (ws : List ℕ) (xs x : List Float) (n m : ℕ) (p q pf qf pt qt : List Float) (own : Float) : Type 0 where
-  pub buses-are : n ≡ buses ws
-  pub branches-are : m ≡ branches ws
-  pub p-long : n ≤ length p
-  pub q-long : n ≤ length q
-  pub pf-long : m ≤ length pf
-  pub qf-long : m ≤ length qf
-  pub pt-long : m ≤ length pt
-  pub qt-long : m ≤ length qt
-  pub p-are : Agrees (buses ws) (pInjection ws xs x) p
-  pub q-are : Agrees (buses ws) (qInjection ws xs x) q
-  pub flows-are : FlowsAre ws xs x (branches ws) pf qf pt qt
-  pub own-is : own ≡ ownObjective ws xs x
 
 module _ {ws : List ℕ} {xs x : List Float} {n m : ℕ} {p q pf qf pt qt : List Float} {own : Float} (H : Held ws xs x n m p q pf qf pt qt own) (solver : Float) (before : List Float)
     (C : Cleared ws xs x solver (length before)) (d : Fault) (is : d ≡ firstNonFinite 15 (listed n m p q pf qf pt qt ++ (solver ∷ own ∷ []))) where

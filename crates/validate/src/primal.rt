@@ -20,7 +20,7 @@ ghost use lib.ListN.{length};
 ghost use Rattle.network.specs.Network.{buses, generators, branches, references};
 ghost use Rattle.derived.specs.Agree.{Ready};
 ghost use Rattle.validate.specs.Check.{checked, outputsAfter};
-ghost use Rattle.validate.specs.Verdict.{Cleared, refusal};
+ghost use Rattle.validate.specs.Verdict.{Cleared, Held, refusal};
 
 fn refused(f: Fault) -> Checked
     ensures { λ r. ⌜ r ≡ refusal f ⌝ }
@@ -33,7 +33,71 @@ fn refused(f: Fault) -> Checked
     }
 }
 
-// 15, 16 and the outputs, where 1 to 14 are clear. Scratch lists are arrays of its own: nothing lent serves as scratch.
+// 15, 16 and the outputs, where 1 to 14 are clear and the scratch lists hold the injections and the flows.
+fn judge(
+    words: &[u32],
+    numbers: &[f64],
+    point: &[f64],
+    n: usize,
+    k: usize,
+    m: usize,
+    count: usize,
+    p_from: &[f64],
+    q_from: &[f64],
+    p_to: &[f64],
+    q_to: &[f64],
+    p: [f64; 256],
+    q: [f64; 256],
+    solver: f64,
+    own: f64,
+    outputs: &mut [f64],
+) -> Checked
+    requires { ⌜ (Ready (now words) (now numbers) (now point)) × (n ≡ buses (now words)) × (k ≡ generators (now words)) × (m ≡ branches (now words)) × (count ≡ references (now words))
+        × (2 * n + 4 * m ≤ length (now outputs)) × (Cleared (now words) (now numbers) (now point) solver (length (now outputs)))
+        × (Held (now words) (now numbers) (now point) n m p q (now «p_from») (now «q_from») (now «p_to») (now «q_to») own) ⌝ }
+    ensures { λ r. ⌜ (r ≡ checked (now (words .entry)) (now (numbers .entry)) (now (point .entry)) solver (length (now (outputs .entry))))
+        × (now (outputs .exit) ≡ outputsAfter (now (words .entry)) (now (numbers .entry)) (now (point .entry)) solver (now (outputs .entry))) ⌝ }
+{
+    let derived = derived_fault(&p, &q, p_from, q_from, p_to, q_to, n, m, solver, own);
+    if derived.number != 0 {
+        return refused(derived);
+    }
+    let r = residuals_at(
+        words,
+        numbers,
+        point,
+        n,
+        k,
+        m,
+        count,
+        p_from,
+        q_from,
+        p_to,
+        q_to,
+        p,
+        q,
+        solver,
+        own,
+    );
+    let above = residual_fault(r);
+    if above.number != 0 {
+        return Checked {
+            number: above.number,
+            place: above.place,
+            objective: 0.0,
+            residuals: r,
+        };
+    }
+    write_outputs(outputs, &p, &q, p_from, q_from, p_to, q_to, n, m);
+    Checked {
+        number: 0,
+        place: 0,
+        objective: own,
+        residuals: r,
+    }
+}
+
+// The verdict where 1 to 14 are clear. Scratch lists are arrays of its own: nothing lent serves as scratch.
 fn verdict(
     words: &[u32],
     numbers: &[f64],
@@ -70,11 +134,7 @@ fn verdict(
     let mut q = [0.0; 256];
     injections(words, numbers, point, n, k, &mut p, &mut q);
     let own = own_objective(words, numbers, point, n, k);
-    let derived = derived_fault(&p, &q, &pf, &qf, &pt, &qt, n, m, solver, own);
-    if derived.number != 0 {
-        return refused(derived);
-    }
-    let r = residuals_at(
+    judge(
         words,
         numbers,
         point,
@@ -90,23 +150,8 @@ fn verdict(
         q,
         solver,
         own,
-    );
-    let above = residual_fault(r);
-    if above.number != 0 {
-        return Checked {
-            number: above.number,
-            place: above.place,
-            objective: 0.0,
-            residuals: r,
-        };
-    }
-    write_outputs(outputs, &p, &q, &pf, &qf, &pt, &qt, n, m);
-    Checked {
-        number: 0,
-        place: 0,
-        objective: own,
-        residuals: r,
-    }
+        outputs,
+    )
 }
 
 // Whether the point is accepted. The outputs are written only then: the list's front is all p injections, all q injections, then all
