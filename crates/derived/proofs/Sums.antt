@@ -1,4 +1,4 @@
--- Loops over generators and branches in the code's terms (n for the buses, `at` for places): columns counted, indexes in range, costs added.
+-- Loops over generators and branches in the code's terms (n for the buses, `at` for places): indexes in range, costs added.
 use mathlib.Core.Path.{_≡_, refl}
 use mathlib.Core.Bool.{Bool, true, false, cond, not, _&&_}
 use mathlib.Core.List.{List}
