@@ -52,7 +52,7 @@ write-outputs-requires c κs =
     let H = pre .7 in
     let fb = pre .0 .good .few-buses in
     let fm = pre .0 .good .few-branches in
-    (pre .5, H .p-long, H .q-long, H .pf-long, H .qf-long, H .pt-long, H .qt-long, omega (arith, pre .1, fb), omega (arith, pre .3, fm))
+    (omega (arith, pre .5), omega (arith, H .p-long), omega (arith, H .q-long), omega (arith, H .pf-long), omega (arith, H .qf-long), omega (arith, H .pt-long), omega (arith, H .qt-long), omega (arith, pre .1, fb), omega (arith, pre .3, fm))
 
 same-length : tie.Need-same-length
 same-length c = search needs
