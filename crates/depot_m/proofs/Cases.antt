@@ -29,8 +29,8 @@ use Rattle.acopf.specs.Rows.{balanceRow, pBalance as pBalanceModel, qBalance as
 use Rattle.acopf.specs.Model.{costTerm, objective, objectiveConstant, model, fileWords}
 use Rattle.acopf.specs.Factor.{firstNonFinite, constants64, faultFactor, networkFault}
 use Rattle.compile.specs.Compile.{lengths, faultShort, compileFault, refused, accepted, compiled}
-use Rattle.validate.specs.Outputs.{injected, withdrawn, pInjection, qInjection, cost, ownObjective, flows, outputs}
-use Rattle.validate.specs.Residuals.{largest, largestWhere, pBalance as pBalanceCheck, qBalance as qBalanceCheck, activeBalance, reactiveBalance, thermalLimits, variableBounds, referenceAngles, angleLimits, epigraphs, objectiveDifference, residuals}
+use Rattle.derived.specs.Outputs.{injected, withdrawn, pInjection, qInjection, cost, ownObjective, flows, outputs}
+use Rattle.residuals.specs.Residuals.{largest, largestWhere, pBalance as pBalanceCheck, qBalance as qBalanceCheck, activeBalance, reactiveBalance, thermalLimits, variableBounds, referenceAngles, angleLimits, epigraphs, objectiveDifference, residuals}
 use Rattle.validate.specs.Check.{tiny64, tolerances, solved, faultOutput, faultPoint, faultSwing, faultDerived, faultResidual, faultOf, checkFault, checked}
 use Rattle.depot_text.specs.Input.{wordAt, bitsAt, formed, inputWords, inputNumbers}
 use Rattle.depot_text.specs.Text.{hexLine, hexLines, decimalWithin, refusedLine, networkText, output}

@@ -1,25 +1,33 @@
 -- The check from its entry on: each refusal's way out, and what holds where 1 to 14 are clear.
 use mathlib.Core.Path.{_≡_, ap, sym, _∙_}
 use mathlib.Core.List.{List}
-use Prim.Native.Nat.{ℕ, _+_, _*_, _≤_, _<_}
+use Prim.Native.Nat.{ℕ, _+_, _*_, _≤_, _<_, _-_}
 use native.Mathlib.Omega.{arith}
-use lib.ListN.{length}
+use lib.ListN.{length, take}
 use lib.Ieee.{Float}
-use borrow.Author.Tests.{leb-true, eqb-true}
+use borrow.Author.Tests.{leb-true, eqb-true, eq-eqb}
 use Rattle.base.specs.declared.Fault.{Fault}
-use Rattle.base.proofs.Firsts.{Clear, or-left, unless-true}
+use Rattle.base.proofs.Firsts.{Clear, or-left, unless-true, or-go, unless-clear}
 use Rattle.base.proofs.Loops.{tally-le}
 use Rattle.network.specs.Network.{buses, generators, branches, curved, epigraphsBefore, columns}
-use Rattle.network.specs.Fault.{faultTables}
 use Rattle.network.proofs.Good.{Good, good}
-use Rattle.acopf.specs.Factor.{networkFault}
+use Rattle.acopf.specs.Factor.{networkFault, firstNonFinite}
 use Rattle.acopf.proofs.Order.{network-spans}
 use Rattle.validate.specs.declared.Checked.{Checked}
-use Rattle.validate.specs.Agree.{Ready}
 use Rattle.validate.specs.Check.{faultOutput, faultPoint, faultSwing, checkFault, checked, outputsAfter}
-use Rattle.validate.specs.Verdict.{Cleared, refusal}
+use Rattle.validate.specs.Verdict.{refusal}
 use Rattle.validate.proofs.Order.{output-spans, point-spans, swing-spans}
 use Rattle.validate.proofs.Verdict.{refused-is, list-kept, by-network, by-output, by-point, by-swing}
+use lib.Seq.{take-length}
+use lib.Dec.{eqb}
+use Rattle.base.specs.Fault.{fault, unless}
+use Rattle.derived.specs.Scratch.{nonFiniteFrom}
+use Rattle.derived.proofs.NonFinite.{non-finite-zero}
+
+module _ (ws : List ℕ) where
+  pub columns-are : (n k count : ℕ) → n ≡ buses ws → k ≡ generators ws → count ≡ epigraphsBefore ws k → 2 * n + 2 * k + count ≡ columns ws
+  unfolding columns
+  columns-are n k count en ek ec = rw (ec, en, ek)
 
 module _ (ws : List ℕ) (xs : List Float) where
   pub network-good : Clear (networkFault ws xs) → Good ws xs
@@ -67,3 +75,12 @@ module _ (ws : List ℕ) (xs x : List Float) (solver : Float) where
         pub stop-swing : Clear (faultPoint ws xs x solver) → f ≡ faultSwing ws xs x solver → (r ≡ checked ws xs x solver (length before)) × (before ≡ outputsAfter ws xs x solver before)
         stop-swing point e =
             stop (e ∙ by-swing ws xs x solver (length before) network output point (number e)) (omega (arith, ap (λ y. y .number) e, swing-spans ws xs x solver .high (number e)))
+
+-- 13, where the length is right
+pub point-rest : (ws : List ℕ) (xs x : List Float) (solver : Float) (count : ℕ) → count ≡ columns ws → length x ≡ count
+    → nonFiniteFrom 13 0 (take count x) ≡ faultPoint ws xs x solver
+unfolding faultPoint
+point-rest ws xs x solver count e h =
+    rw (← h, take-length, non-finite-zero 13 x)
+    (sym (or-go (unless (eqb (length x) (columns ws)) (fault 13 (columns ws))) (firstNonFinite 13 x)
+    (ap (λ f. f .number) (unless-clear (eqb (length x) (columns ws)) (fault 13 (columns ws)) (eq-eqb _ _ (h ∙ e))))))

@@ -16,8 +16,8 @@ use Rattle.acopf.proofs.Order.{non-finite-spans, non-finite-place, network-span
 use Rattle.float.specs.Number.{isFinite}
 use Rattle.network.specs.Bounds.{angleRight}
 use Rattle.network.specs.Network.{buses, branches, columns, vaColumn}
-use Rattle.validate.specs.Outputs.{va, ownObjective, flows, outputs}
-use Rattle.validate.proofs.Outputs.{length-outputs}
+use Rattle.derived.specs.Outputs.{va, ownObjective, flows, outputs}
+use Rattle.derived.proofs.Outputs.{length-outputs}
 use Rattle.validate.specs.Check.{tolerances, Solved, solved, faultOutput, faultPoint, faultSwing, faultDerived, faultResidual, faultOf, checkFault}
 
 module _ (ws : List ℕ) (xs x : List Float) (solver : Float) where

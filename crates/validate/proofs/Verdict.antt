@@ -1,47 +1,41 @@
 -- The check's answer and its output list, for each way out of the check.
-use mathlib.Core.Path.{_≡_, refl, ap, sym, _∙_}
-use mathlib.Core.Bool.{Bool, true, false, cond, not}
+use mathlib.Core.Path.{_≡_, ap, sym, _∙_}
+use mathlib.Core.Bool.{not}
 use mathlib.Core.List.{List, [], _∷_, _++_}
 use Prim.Native.Nat.{ℕ, _+_, _*_, _≤_, _<_}
 use native.Mathlib.Omega.{arith}
 use lib.ListN.{length, drop, getD}
-use lib.Dec.{eqb}
 use lib.Ieee.{Float, nan, lt}
 use borrow.Author.Tests.{eq-eqb, ne-eqb}
 use Rattle.base.specs.declared.Fault.{Fault}
 use Rattle.base.specs.Fault.{fault, unless, orElse, first}
-use Rattle.base.proofs.Firsts.{Clear, Spans, or-go, or-stop}
+use Rattle.base.proofs.Firsts.{Clear, or-go, or-stop}
 use Rattle.float.specs.Number.{zero64}
 use Rattle.acopf.specs.Factor.{firstNonFinite, networkFault}
-use Rattle.acopf.proofs.Order.{network-spans}
 use Rattle.validate.specs.declared.Checked.{Checked}
 use Rattle.validate.specs.Check.{tolerances, Solved, solved, faultOutput, faultPoint, faultSwing, faultDerived, faultResidual, faultOf, checkFault, checked, outputsAfter}
 use Rattle.network.specs.Network.{buses, branches}
-use Rattle.validate.specs.Agree.{Agrees}
-use Rattle.validate.specs.Outputs.{withdrawn, pInjection, qInjection, ownObjective, flows, outputs, pFrom, qFrom, pTo, qTo}
-use Rattle.validate.specs.Residuals.{pBalance, qBalance, residuals}
-use Rattle.validate.specs.Scratch.{FlowsAre, listed}
-use Rattle.validate.specs.Derived.{Derived}
-use Rattle.validate.specs.Verdict.{Cleared, refusal}
-use Rattle.validate.proofs.NonFinite.{derived-is}
-use Rattle.validate.proofs.Scratch.{listed-outputs, outputs-left}
-use Rattle.validate.proofs.Order.{output-spans, point-spans, swing-spans, derived-spans, residual-spans}
+use Rattle.derived.specs.Agree.{Agrees}
+use Rattle.derived.specs.Outputs.{pInjection, qInjection, ownObjective, flows, outputs}
+use Rattle.residuals.specs.Residuals.{residuals}
+use Rattle.derived.specs.Scratch.{FlowsAre, listed}
+use Rattle.validate.specs.Verdict.{Cleared, Held, refusal}
+use Rattle.derived.proofs.Scratch.{listed-outputs}
+use Rattle.validate.proofs.Order.{derived-spans, residual-spans}
+use Rattle.derived.proofs.Outputs.{length-outputs}
 
--- the balances, from the injections, by what `balances` says of its list
-pub derived-are : (ws : List ℕ) (xs x : List Float) (n m : ℕ) (pf qf pt qt p q p′ q′ : List Float) (own : Float) → n ≡ buses ws → m ≡ branches ws
-    → FlowsAre ws xs x (branches ws) pf qf pt qt → Agrees (buses ws) (pInjection ws xs x) p → Agrees (buses ws) (qInjection ws xs x) q → own ≡ ownObjective ws xs x
-    → ((atFrom atTo start : ℕ → Float) → Agrees m atFrom pf → Agrees m atTo pt → Agrees n start p → Agrees n (λ i. withdrawn ws i atFrom atTo (start i)) p′)
-    → ((atFrom atTo start : ℕ → Float) → Agrees m atFrom qf → Agrees m atTo qt → Agrees n start q → Agrees n (λ i. withdrawn ws i atFrom atTo (start i)) q′)
-    → Derived ws xs x pf qf pt qt p′ q′ own
-unfolding pBalance qBalance
-derived-are ws xs x n m pf qf pt qt p q p′ q′ own en em F a b o f g =
-    let F′ = flows ws xs x in
-    record {
-      flows-are = F;
-      active = λ i l. f (pFrom F′) (pTo F′) (pInjection ws xs x) (λ j k. F .p-from j (omega arith)) (λ j k. F .p-to j (omega arith)) (λ j k. a j (omega arith)) i (omega arith);
-      reactive = λ i l. g (qFrom F′) (qTo F′) (qInjection ws xs x) (λ j k. F .q-from j (omega arith)) (λ j k. F .q-to j (omega arith)) (λ j k. b j (omega arith)) i (omega arith);
-      objective = o;
-    }
+-- 15 of the outputs and the two objectives
+pub derived-is : (ws : List ℕ) (xs x : List Float) (solver own : Float) (l : List Float) → l ≡ outputs ws xs x (flows ws xs x) → own ≡ ownObjective ws xs x
+    → firstNonFinite 15 (l ++ (solver ∷ own ∷ [])) ≡ faultDerived ws xs x solver (solved ws xs x solver)
+unfolding faultDerived solved
+derived-is ws xs x solver own l e f = rw (e, f)
+
+-- the whole list after an accepted point's outputs are written
+pub outputs-left : (ws : List ℕ) (xs x : List Float) (solver : Float) (n m : ℕ) (l before : List Float) → n ≡ buses ws → m ≡ branches ws
+    → l ≡ outputs ws xs x (flows ws xs x) → Clear (checkFault ws xs x solver (length before)) → l ++ drop (2 * n + 4 * m) before ≡ outputsAfter ws xs x solver before
+unfolding solved
+outputs-left ws xs x solver n m l before en em e c =
+    rw (e, en, em, eq-eqb _ 0 c, length-outputs ws xs x (flows ws xs x))
 
 module _ (ws : List ℕ) (xs x : List Float) (solver : Float) where
   abbrev S : Solved
@@ -107,21 +101,6 @@ module _ (ws : List ℕ) (xs x : List Float) (solver : Float) where
         rw (← k, eq-eqb (f .number) 0 n, q, o)
 
 -- ---- the three ways out, from the scratch lists
-
--- what the scratch lists hold, of the lengths that they have
-pub record Held (ws : List ℕ) (xs x : List Float) (n m : ℕ) (p q pf qf pt qt : List Float) (own : Float) : Type 0 where
-  pub buses-are : n ≡ buses ws
-  pub branches-are : m ≡ branches ws
-  pub p-long : n ≤ length p
-  pub q-long : n ≤ length q
-  pub pf-long : m ≤ length pf
-  pub qf-long : m ≤ length qf
-  pub pt-long : m ≤ length pt
-  pub qt-long : m ≤ length qt
-  pub p-are : Agrees (buses ws) (pInjection ws xs x) p
-  pub q-are : Agrees (buses ws) (qInjection ws xs x) q
-  pub flows-are : FlowsAre ws xs x (branches ws) pf qf pt qt
-  pub own-is : own ≡ ownObjective ws xs x
 
 module _ {ws : List ℕ} {xs x : List Float} {n m : ℕ} {p q pf qf pt qt : List Float} {own : Float} (H : Held ws xs x n m p q pf qf pt qt own) (solver : Float) (before : List Float)
     (C : Cleared ws xs x solver (length before)) (d : Fault) (is : d ≡ firstNonFinite 15 (listed n m p q pf qf pt qt ++ (solver ∷ own ∷ []))) where

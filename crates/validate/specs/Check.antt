@@ -12,8 +12,8 @@ use Rattle.network.specs.Network.{buses, branches, columns, vaColumn}
 use Rattle.network.specs.Bounds.{angleRight}
 use Rattle.acopf.specs.Factor.{firstNonFinite, networkFault}
 use Rattle.validate.specs.declared.Checked.{Checked}
-use Rattle.validate.specs.Outputs.{va, flows, outputs, ownObjective}
-use Rattle.validate.specs.Residuals.{residuals}
+use Rattle.derived.specs.Outputs.{va, flows, outputs, ownObjective}
+use Rattle.residuals.specs.Residuals.{residuals}
 
 -- 1e-6, the Rust's PRIMAL_TOLERANCE
 abbrev pub tiny64 : Float

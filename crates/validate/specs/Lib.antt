@@ -1,9 +1,2 @@
-pub mod Outputs
-pub mod Residuals
 pub mod Check
-pub mod Accepted
-pub mod Agree
-pub mod Scratch
-pub mod Section
-pub mod Derived
 pub mod Verdict

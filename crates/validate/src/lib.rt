@@ -1,12 +1,7 @@
 // validate_primal: whether a solver's point is accepted.
 mod boundary;
-mod bounds;
-mod columns;
-mod derived;
-mod eight;
 mod point;
 mod primal;
-mod residuals;
 mod tolerance;
 
 pub use boundary::validate_check;

@@ -1,70 +1,21 @@
 // The number of columns, and refusals 12, short, 13, point, and 14, swing.
 use base::Fault;
+use derived::first_non_finite;
 ghost use mathlib.Core.Path.{_≡_};
-ghost use mathlib.Core.Bool.{cond, not, _&&_};
 ghost use mathlib.Core.List.{List};
-ghost use Prim.Native.Nat.{ℕ, suc, _+_, _<_, _≤_};
-ghost use lib.Dec.{eqb};
+ghost use Prim.Native.Nat.{ℕ, _+_, _<_, _≤_};
 ghost use lib.Ieee.{Float};
-ghost use lib.ListN.{length, take};
-ghost use Rattle.network.specs.Word.{generatorPoints};
+ghost use lib.ListN.{length};
 ghost use Rattle.network.specs.Network.{buses, generators, branches, columns};
 ghost use Rattle.validate.specs.Check.{faultOutput, faultPoint, faultSwing};
-ghost use Rattle.validate.specs.Scratch.{nonFiniteFrom};
-
-// Whether a generator with word w has an epigraph column; `costs` is the header's.
-pub(crate) fn curved(costs: bool, w: u32) -> bool
-    ensures { λ r. ⌜ r ≡ (costs && not (eqb (generatorPoints w) 0)) ⌝ }
-{
-    let curve = network::generator_points(w) != 0;
-    costs & curve
-}
-
-pub(crate) fn counted(count: usize, one: bool) -> usize
-    requires { ⌜ count < 0xffff_ffff_ffff_ffff ⌝ }
-    ensures { λ r. ⌜ r ≡ cond one (suc count) count ⌝ }
-{
-    if one {
-        return count + 1;
-    }
-    count
-}
 
 // va, vm, pg, qg, then the epigraphs.
 pub(crate) fn columns_of(words: &[u32], n: usize, k: usize) -> usize
     requires { ⌜ (n ≡ buses (now words)) × (k ≡ generators (now words)) × (1 + n + k ≤ length (now words)) × (n ≤ 256) × (k ≤ 256) ⌝ }
     ensures { λ r. ⌜ r ≡ columns (now (words .entry)) ⌝ }
 {
-    let costs = network::header_costs(words[0]);
-    let mut epigraphs = 0usize;
-    let mut g = 0usize;
-    while g < k {
-        let one = curved(costs, words[1 + n + g]);
-        epigraphs = counted(epigraphs, one);
-        g += 1;
-    }
-    2 * n + 2 * k + epigraphs
-}
-
-// The first of the list's first `count` numbers that is not finite; its place is counted from `from` on.
-pub(crate) fn first_non_finite(list: &[f64], count: usize, number: u32, from: usize) -> Fault
-    requires { ⌜ (count ≤ length (now list)) × (0 < number) × (from + count < 0xffff_ffff_ffff_ffff) ⌝ }
-    ensures { λ r. ⌜ r ≡ nonFiniteFrom number from (take count (now (list .entry))) ⌝ }
-{
-    let mut i = 0usize;
-    while i < count {
-        if !float::is_finite(list[i]) {
-            return Fault {
-                number,
-                place: from + i,
-            };
-        }
-        i += 1;
-    }
-    Fault {
-        number: 0,
-        place: 0,
-    }
+    let priced = network::header_costs(words[0]);
+    2 * n + 2 * k + factor::epigraph_count(words, n, k, priced)
 }
 
 // 12: n buses and m branches have 2n + 4m outputs.

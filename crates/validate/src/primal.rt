@@ -1,33 +1,40 @@
 // validate_primal's verdict: refusals 1 to 16 in document 01's order, and the outputs of an accepted point.
 use crate::Checked;
-use crate::derived::balances;
-use crate::derived::derived_fault;
-use crate::derived::flows;
-use crate::derived::injections;
-use crate::derived::own_objective;
-use crate::derived::write_outputs;
-use crate::eight::residuals_of;
 use crate::point::columns_of;
 use crate::point::output_fault;
 use crate::point::point_fault;
 use crate::point::swing_fault;
 use crate::tolerance::residual_fault;
 use base::Fault;
+use derived::derived_fault;
+use derived::flows;
+use derived::injections;
+use derived::own_objective;
+use derived::write_outputs;
 use factor::network_fault;
 use network::sizes_of;
+use residuals::residuals_at;
 ghost use mathlib.Core.Path.{_≡_};
 ghost use Prim.Native.Nat.{_+_, _*_, _≤_};
 ghost use lib.ListN.{length};
 ghost use Rattle.network.specs.Network.{buses, generators, branches, references};
-ghost use Rattle.validate.specs.Agree.{Agrees, Ready};
+ghost use Rattle.derived.specs.Agree.{Ready};
 ghost use Rattle.validate.specs.Check.{checked, outputsAfter};
-ghost use Rattle.validate.specs.Outputs.{pInjection, qInjection, flows, ownObjective};
-ghost use Rattle.validate.specs.Residuals.{residuals};
-ghost use Rattle.validate.specs.Scratch.{FlowsAre};
-ghost use Rattle.validate.specs.Verdict.{Cleared, refusal};
+ghost use Rattle.validate.specs.Verdict.{Cleared, Held, refusal};
 
-// The residuals, from the injections and the flows; the balances are worked out on copies.
-fn residuals_at(
+fn refused(f: Fault) -> Checked
+    ensures { λ r. ⌜ r ≡ refusal f ⌝ }
+{
+    Checked {
+        number: f.number,
+        place: f.place,
+        objective: 0.0,
+        residuals: [0.0; 8],
+    }
+}
+
+// 15, 16 and the outputs, where 1 to 14 are clear and the scratch lists hold the injections and the flows.
+fn judge(
     words: &[u32],
     numbers: &[f64],
     point: &[f64],
@@ -43,19 +50,19 @@ fn residuals_at(
     q: [f64; 256],
     solver: f64,
     own: f64,
-) -> [f64; 8]
+    outputs: &mut [f64],
+) -> Checked
     requires { ⌜ (Ready (now words) (now numbers) (now point)) × (n ≡ buses (now words)) × (k ≡ generators (now words)) × (m ≡ branches (now words)) × (count ≡ references (now words))
-        × (m ≤ length (now «p_from»)) × (m ≤ length (now «q_from»)) × (m ≤ length (now «p_to»)) × (m ≤ length (now «q_to»))
-        × (FlowsAre (now words) (now numbers) (now point) (branches (now words)) (now «p_from») (now «q_from») (now «p_to») (now «q_to»))
-        × (Agrees (buses (now words)) (pInjection (now words) (now numbers) (now point)) p) × (Agrees (buses (now words)) (qInjection (now words) (now numbers) (now point)) q)
-        × (own ≡ ownObjective (now words) (now numbers) (now point)) × (n ≤ length p) × (n ≤ length q) ⌝ }
-    ensures { λ r. ⌜ r ≡ residuals (now (words .entry)) (now (numbers .entry)) (now (point .entry)) (flows (now (words .entry)) (now (numbers .entry)) (now (point .entry))) solver ⌝ }
+        × (2 * n + 4 * m ≤ length (now outputs)) × (Cleared (now words) (now numbers) (now point) solver (length (now outputs)))
+        × (Held (now words) (now numbers) (now point) n m p q (now «p_from») (now «q_from») (now «p_to») (now «q_to») own) ⌝ }
+    ensures { λ r. ⌜ (r ≡ checked (now (words .entry)) (now (numbers .entry)) (now (point .entry)) solver (length (now (outputs .entry))))
+        × (now (outputs .exit) ≡ outputsAfter (now (words .entry)) (now (numbers .entry)) (now (point .entry)) solver (now (outputs .entry))) ⌝ }
 {
-    let mut pb = p;
-    let mut qb = q;
-    balances(words, n, k, m, p_from, p_to, &mut pb);
-    balances(words, n, k, m, q_from, q_to, &mut qb);
-    residuals_of(
+    let derived = derived_fault(&p, &q, p_from, q_from, p_to, q_to, n, m, solver, own);
+    if derived.number != 0 {
+        return refused(derived);
+    }
+    let r = residuals_at(
         words,
         numbers,
         point,
@@ -67,25 +74,30 @@ fn residuals_at(
         q_from,
         p_to,
         q_to,
-        &pb,
-        &qb,
+        p,
+        q,
         solver,
         own,
-    )
-}
-
-fn refused(f: Fault) -> Checked
-    ensures { λ r. ⌜ r ≡ refusal f ⌝ }
-{
+    );
+    let above = residual_fault(r);
+    if above.number != 0 {
+        return Checked {
+            number: above.number,
+            place: above.place,
+            objective: 0.0,
+            residuals: r,
+        };
+    }
+    write_outputs(outputs, &p, &q, p_from, q_from, p_to, q_to, n, m);
     Checked {
-        number: f.number,
-        place: f.place,
-        objective: 0.0,
-        residuals: [0.0; 8],
+        number: 0,
+        place: 0,
+        objective: own,
+        residuals: r,
     }
 }
 
-// 15, 16 and the outputs, where 1 to 14 are clear. Scratch lists are arrays of its own: nothing lent serves as scratch.
+// The verdict where 1 to 14 are clear. Scratch lists are arrays of its own: nothing lent serves as scratch.
 fn verdict(
     words: &[u32],
     numbers: &[f64],
@@ -122,11 +134,7 @@ fn verdict(
     let mut q = [0.0; 256];
     injections(words, numbers, point, n, k, &mut p, &mut q);
     let own = own_objective(words, numbers, point, n, k);
-    let derived = derived_fault(&p, &q, &pf, &qf, &pt, &qt, n, m, solver, own);
-    if derived.number != 0 {
-        return refused(derived);
-    }
-    let r = residuals_at(
+    judge(
         words,
         numbers,
         point,
@@ -142,23 +150,8 @@ fn verdict(
         q,
         solver,
         own,
-    );
-    let above = residual_fault(r);
-    if above.number != 0 {
-        return Checked {
-            number: above.number,
-            place: above.place,
-            objective: 0.0,
-            residuals: r,
-        };
-    }
-    write_outputs(outputs, &p, &q, &pf, &qf, &pt, &qt, n, m);
-    Checked {
-        number: 0,
-        place: 0,
-        objective: own,
-        residuals: r,
-    }
+        outputs,
+    )
 }
 
 // Whether the point is accepted. The outputs are written only then: the list's front is all p injections, all q injections, then all

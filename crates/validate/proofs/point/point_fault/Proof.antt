@@ -1,6 +1,6 @@
 use mathlib.Core.Path.{sym, _∙_}
 use borrow.Author.Needs.{needs}
-use Rattle.validate.proofs.NonFinite.{point-rest}
+use Rattle.validate.proofs.Entry.{point-rest}
 use Rattle.validate.proofs.Order.{length-place}
 use Rattle.validate.proofs.point.point_fault.Statement.{statement}
 use Rattle.validate.proofs.point.point_fault.Tie as tie

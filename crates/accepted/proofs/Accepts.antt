@@ -1,0 +1,171 @@
+-- What an accepted point is, piece by piece: the check refuses nothing exactly where these hold.
+use mathlib.Core.Path.{_≡_, refl, ap, sym, _∙_}
+use mathlib.Core.List.{List, [], _∷_, _++_}
+use mathlib.Core.Bool.{Bool, true, false, cond, not}
+use mathlib.Core.Logic.{_↔_}
+use Prim.Native.Nat.{ℕ, zero, suc, _+_, _-_, _<_}
+use native.Mathlib.Omega.{arith}
+use native.Mathlib.Nat.{zero-add}
+use lib.ListN.{length, getD}
+use lib.Dec.{eqb}
+use lib.Ieee.{Float, nan, lt, ofBits}
+use borrow.Author.Tests.{leb-true, le-leb, eqb-true, eq-eqb, not-true}
+use Rattle.base.proofs.Firsts.{Clear, Proper, or-left, or-right, or-clear, or-proper, unless-true, unless-clear, unless-proper, first-clear, all-clear, first-proper}
+use Rattle.base.proofs.Loops.{Every, every-nil, every-cons, all-at}
+use Rattle.base.specs.Fault.{clear, fault, unless}
+use Rattle.base.specs.declared.Fault.{Fault}
+use Rattle.float.proofs.Above.{maximum-law}
+use Rattle.float.proofs.Finite.{finite-append}
+use Rattle.float.specs.Number.{isFinite, AllFinite, maximum, _⊖_, zero64}
+use Rattle.network.specs.Bounds.{positiveViolation}
+use Rattle.network.specs.Network.{buses, generators, branches, references, columns}
+use Rattle.acopf.specs.Factor.{firstNonFinite, networkFault}
+use Rattle.acopf.proofs.Order.{network-proper}
+use Rattle.acopf.proofs.Finite.{non-finite-clear}
+use Rattle.accepted.proofs.Largest.{largest-law, largestWhere-law}
+use Rattle.accepted.specs.Accepted.{Within, Accepted}
+use Rattle.validate.specs.declared.Checked.{Checked}
+use Rattle.validate.specs.Check.{tiny64, tolerances, Solved, solved, faultOutput, faultPoint, faultSwing, faultDerived, faultResidual, faultOf, checkFault, checked}
+use Rattle.derived.specs.Outputs.{ownObjective, flows, outputs}
+use Rattle.residuals.specs.Residuals.{activeBalance, reactiveBalance, thermalLimits, variableBounds, referenceAngles, angleLimits, epigraphs, objectiveDifference, residuals}
+
+pub zero-within : Within zero64
+unfolding lt ofBits
+zero-within = refl
+
+-- the three answers of `checked`
+one-of-three : (n : ℕ) (r s t : Checked) → r .number ≡ 0 → s .number ≡ 16 → t .number ≡ n → cond (eqb n 0) r (cond (eqb n 16) s t) .number ≡ n
+one-of-three n r s t hr hs ht = go (eqb n 0) (eqb n 16) refl refl
+  where
+    go : (a b : Bool) → eqb n 0 ≡ a → eqb n 16 ≡ b → cond a r (cond b s t) .number ≡ n
+    go true b p q = hr ∙ sym (eqb-true n 0 p)
+    go false true p q = hs ∙ sym (eqb-true n 16 q)
+    go false false p q = ht
+
+-- ---- the theorem
+
+module _ (ws : List ℕ) (xs x : List Float) (solver : Float) where
+  abbrev S : Solved
+  S = solved ws xs x solver
+
+  residual-within : Clear (faultResidual ws xs x solver S) → (i : ℕ) → i < 8 → lt (getD tolerances i nan) (getD (S .residuals) i nan) ≡ false
+  unfolding faultResidual
+  residual-within c i l = not-true (lt (getD tolerances i nan) (getD (S .residuals) i nan)) (unless-true _ 16 _ (omega arith) (first-clear 8 _ c i l))
+
+  within-residual : Every (λ i v. lt (getD tolerances i nan) v ≡ false) 0 (S .residuals) → Clear (faultResidual ws xs x solver S)
+  unfolding faultResidual solved residuals
+  within-residual h =
+      all-clear 8 _ (λ i l.
+      let k : lt (getD tolerances i nan) (getD (S .residuals) i nan) ≡ false = rw zero-add at (all-at (λ i v. lt (getD tolerances i nan) v ≡ false) 0 (S .residuals) (h .all) i nan l) in
+      ap (λ y. y .number) (unless-clear (not (lt (getD tolerances i nan) (getD (S .residuals) i nan))) _ (ap not k)))
+
+  -- 15 looks at the outputs, the solver's objective and the own one, and at nothing else
+  pub derived-exactly : Clear (faultDerived ws xs x solver (solved ws xs x solver))
+      ↔ (AllFinite (outputs ws xs x (flows ws xs x)) × (isFinite solver ≡ true) × (isFinite (ownObjective ws xs x) ≡ true))
+  unfolding faultDerived solved
+  derived-exactly =
+      let n = non-finite-clear 15 (S .outputs ++ (solver ∷ S .objective ∷ [])) (omega arith) in
+      let a = finite-append (S .outputs) (solver ∷ S .objective ∷ []) in
+      (λ c. let d = a .0 (n .0 c) in (d .0, d .1 0 (omega arith), d .1 1 (omega arith)), λ h. n .1 (a .1 (h .0, two (h .1) (h .2))))
+    where
+      two : isFinite solver ≡ true → isFinite (ownObjective ws xs x) ≡ true → AllFinite (solver ∷ ownObjective ws xs x ∷ [])
+      two p q zero l = p
+      two p q (suc zero) l = q
+      two p q (suc (suc j)) l = absurd (omega arith)
+
+  -- so a balance that overflows is never 15
+  pub balance-never-15 : AllFinite (outputs ws xs x (flows ws xs x)) → isFinite solver ≡ true → isFinite (ownObjective ws xs x) ≡ true
+      → faultDerived ws xs x solver (solved ws xs x solver) ≡ clear
+  unfolding faultDerived firstNonFinite
+  balance-never-15 h p q = first-proper _ _ (λ i. unless-proper _ 15 i (omega arith)) (derived-exactly .1 (h, p, q))
+
+  check-proper : (lent : ℕ) → Proper (checkFault ws xs x solver lent)
+  unfolding checkFault faultOf faultResidual
+  check-proper lent =
+      or-proper _ _ (or-proper _ _ (or-proper _ _ (or-proper _ _ (or-proper _ _ (first-proper _ _ (λ i. unless-proper _ 16 _ (omega arith)))))))
+
+  module _ (lent : ℕ) where
+    pub accepted-means : checkFault ws xs x solver lent ≡ clear → Accepted ws xs x solver lent
+    unfolding checkFault faultOf faultOutput faultPoint faultSwing solved residuals tolerances activeBalance reactiveBalance variableBounds referenceAngles angleLimits thermalLimits epigraphs objectiveDifference
+    accepted-means e =
+        let c = ap (λ f. f .number) e in
+        let network = or-left (networkFault ws xs) _ c in
+        let c1 = or-right (networkFault ws xs) _ c in
+        let room = or-left (faultOutput ws xs x solver lent) _ c1 in
+        let c2 = or-right (faultOutput ws xs x solver lent) _ c1 in
+        let point = or-left (faultPoint ws xs x solver) _ c2 in
+        let c3 = or-right (faultPoint ws xs x solver) _ c2 in
+        let swing = or-left (faultSwing ws xs x solver) _ c3 in
+        let c4 = or-right (faultSwing ws xs x solver) _ c3 in
+        let derived = or-left (faultDerived ws xs x solver S) _ c4 in
+        let w = residual-within (or-right (faultDerived ws xs x solver S) _ c4) in
+        let d = derived-exactly .0 derived in
+        record {
+          sound = record {
+            network = network-proper ws xs network;
+            room = leb-true _ _ (unless-true _ 12 1 (omega arith) room);
+            columns-given = eqb-true _ _ (unless-true _ 13 (columns ws) (omega arith) (or-left _ _ point));
+            point-finite = non-finite-clear 13 x (omega arith) .0 (or-right _ _ point);
+            angles = λ i l. unless-true _ 14 i (omega arith) (first-clear (buses ws) _ swing i l);
+            outputs-finite = d .0;
+            solver-finite = d .1;
+            own-finite = d .2;
+          };
+          active = largest-law tiny64 zero-within (buses ws) _ .0 (w 0 (omega arith));
+          reactive = largest-law tiny64 zero-within (buses ws) _ .0 (w 1 (omega arith));
+          bounds = largest-law tiny64 zero-within (columns ws) _ .0 (w 2 (omega arith));
+          reference = largest-law tiny64 zero-within (references ws) _ .0 (w 3 (omega arith));
+          angle = largestWhere-law tiny64 zero-within (branches ws) _ _ .0 (w 4 (omega arith));
+          rating = largestWhere-law tiny64 zero-within (branches ws) _ _ .0 (w 5 (omega arith));
+          curve = largestWhere-law tiny64 zero-within (generators ws) _ _ .0 (w 6 (omega arith));
+          objective = w 7 (omega arith);
+        }
+
+    means-accepted : Accepted ws xs x solver lent → Clear (checkFault ws xs x solver lent)
+    unfolding checkFault faultOf faultOutput faultPoint faultSwing solved residuals tolerances activeBalance reactiveBalance variableBounds referenceAngles angleLimits thermalLimits epigraphs objectiveDifference
+    means-accepted a =
+        or-clear (networkFault ws xs) _ (ap (λ f. f .number) (a .sound .network))
+        (or-clear (faultOutput ws xs x solver lent) _ (test _ _ (le-leb _ _ (a .sound .room)))
+        (or-clear (faultPoint ws xs x solver) _ (or-clear (unless (eqb (length x) (columns ws)) (fault 13 (columns ws))) (firstNonFinite 13 x) (test _ _ (eq-eqb _ _ (a .sound .columns-given))) (non-finite-clear 13 x (omega arith) .1 (a .sound .point-finite)))
+        (or-clear (faultSwing ws xs x solver) _ (all-clear (buses ws) _ (λ i l. test _ _ (a .sound .angles i l)))
+        (or-clear (faultDerived ws xs x solver S) _ (derived-exactly .1 (a .sound .outputs-finite, a .sound .solver-finite, a .sound .own-finite))
+        (within-residual (
+        every-cons (largest-law tiny64 zero-within (buses ws) _ .1 (a .active))
+        (every-cons (largest-law tiny64 zero-within (buses ws) _ .1 (a .reactive))
+        (every-cons (largest-law tiny64 zero-within (columns ws) _ .1 (a .bounds))
+        (every-cons (largest-law tiny64 zero-within (references ws) _ .1 (a .reference))
+        (every-cons (largestWhere-law tiny64 zero-within (branches ws) _ _ .1 (a .angle))
+        (every-cons (largestWhere-law tiny64 zero-within (branches ws) _ _ .1 (a .rating))
+        (every-cons (largestWhere-law tiny64 zero-within (generators ws) _ _ .1 (a .curve))
+        (every-cons (a .objective) every-nil)))))))))))))
+      where
+        test : (b : Bool) (f : Fault) → b ≡ true → Clear (unless b f)
+        test b f h = ap (λ y. y .number) (unless-clear b f h)
+
+    -- nothing is refused exactly where all of it holds
+    pub accepted-exactly : (checkFault ws xs x solver lent ≡ clear) ↔ Accepted ws xs x solver lent
+    accepted-exactly = (accepted-means, λ a. check-proper lent (means-accepted a))
+
+    -- the answer's number is the refusal's
+    answer-number : checked ws xs x solver lent .number ≡ checkFault ws xs x solver lent .number
+    unfolding checked checkFault
+    answer-number = one-of-three (faultOf ws xs x solver lent S .number) _ _ _ refl refl refl
+
+    -- the answer is 0 exactly where all of it holds
+    pub answered-exactly : (checked ws xs x solver lent .number ≡ 0) ↔ Accepted ws xs x solver lent
+    answered-exactly = (λ e. accepted-means (check-proper lent (sym answer-number ∙ e)), λ a. answer-number ∙ means-accepted a)
+
+-- the parts of a violation, and of what is cut off at 0
+pub within-maximum : (a b : Float) → Within (maximum a b) ↔ (Within a × Within b)
+within-maximum a b = maximum-law tiny64 a b
+
+pub within-violation : (v lower upper : Float) → Within (positiveViolation v lower upper) ↔ (Within (lower ⊖ v) × Within (v ⊖ upper))
+unfolding positiveViolation
+within-violation v lower upper =
+    let m = maximum-law tiny64 (maximum (lower ⊖ v) zero64) (maximum (v ⊖ upper) zero64) in
+    let l = maximum-law tiny64 (lower ⊖ v) zero64 in
+    let u = maximum-law tiny64 (v ⊖ upper) zero64 in
+    (λ h. (l .0 (m .0 h .0) .0, u .0 (m .0 h .1) .0), λ h. m .1 (l .1 (h .0, zero-within), u .1 (h .1, zero-within)))
+
+pub within-cut : (a : Float) → Within (maximum a zero64) ↔ Within a
+within-cut a = let m = maximum-law tiny64 a zero64 in (λ h. m .0 h .0, λ h. m .1 (h, zero-within))

@@ -1,0 +1,4 @@
+pub mod Largest
+pub mod Accepts
+pub mod Floats
+pub mod Kept

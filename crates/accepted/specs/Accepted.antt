@@ -1,0 +1,82 @@
+-- What an accepted point is, piece by piece: the check says 0 exactly where Sound and Kept hold (accepted-exactly-kept, proofs/Kept.antt).
+-- Accepted says the same with "not above" in place of "at most" (accepted-exactly, proofs/Accepts.antt).
+use Prim.Native.Nat.{ℕ, _+_, _*_, _≤_, _<_}
+use mathlib.Core.Path.{_≡_}
+use mathlib.Core.Bool.{true, false}
+use mathlib.Core.List.{List}
+use lib.ListN.{length, getD}
+use lib.Ieee.{Float, nan, lt, le}
+use Rattle.base.specs.Fault.{clear}
+use Rattle.float.specs.Number.{_⊖_, _⊘_, zero64, one64, isFinite, absolute, maximum, AllFinite}
+use Rattle.fdlibm.specs.Hypot.{hypotenuse}
+use Rattle.network.specs.Network.{buses, generators, branches, references, from, to, angled, referred, curved, columns, angleMin, angleMax, sMax}
+use Rattle.network.specs.Bounds.{angleRight, positiveViolation}
+use Rattle.acopf.specs.Curve.{curveValue}
+use Rattle.acopf.specs.Columns.{columnLower, columnUpper}
+use Rattle.acopf.specs.Rows.{rated}
+use Rattle.acopf.specs.Factor.{networkFault}
+use Rattle.derived.specs.Outputs.{va, pg, epigraph, ownObjective, flows, pFrom, qFrom, pTo, qTo, outputs}
+use Rattle.residuals.specs.Residuals.{pBalance, qBalance}
+use Rattle.validate.specs.Check.{tiny64}
+
+-- what refusals 1 to 15 ask
+pub record Sound (ws : List ℕ) (xs x : List Float) (solver : Float) (lent : ℕ) : Type 0 where
+  -- the network is not refused, the output list is long enough
+  pub network : networkFault ws xs ≡ clear
+  pub room : 2 * buses ws + 4 * branches ws ≤ lent
+  -- the point has a finite number for each column, its angles from -1024 to 1024
+  pub columns-given : length x ≡ columns ws
+  pub point-finite : AllFinite x
+  pub angles : (i : ℕ) → i < buses ws → angleRight (va ws x i) ≡ true
+  -- what is calculated is finite
+  pub outputs-finite : AllFinite (outputs ws xs x (flows ws xs x))
+  pub solver-finite : isFinite solver ≡ true
+  pub own-finite : isFinite (ownObjective ws xs x) ≡ true
+
+-- at most the tolerance; a NaN is not
+abbrev pub AtMost : Float → Type 0
+AtMost x = le x tiny64 ≡ true
+
+-- an accepted point leaves no bus, bound, angle, rating, curve or objective by more than the tolerance
+pub record Kept (ws : List ℕ) (xs x : List Float) (solver : Float) : Type 0 where
+  -- active balance: at every bus, of either sign
+  pub active : (i : ℕ) → i < buses ws → AtMost (absolute (pBalance ws xs x (flows ws xs x) i))
+  -- reactive balance: at every bus, of either sign
+  pub reactive : (i : ℕ) → i < buses ws → AtMost (absolute (qBalance ws xs x (flows ws xs x) i))
+  -- variable bounds: how far a column is below its lower bound
+  pub lower : (j : ℕ) → j < columns ws → AtMost (getD (columnLower ws xs) j nan ⊖ getD x j nan)
+  -- variable bounds: how far a column is above its upper bound
+  pub upper : (j : ℕ) → j < columns ws → AtMost (getD x j nan ⊖ getD (columnUpper ws xs) j nan)
+  -- reference angles: at every reference's bus, of either sign
+  pub reference : (r : ℕ) → r < references ws → AtMost (absolute (va ws x (referred ws r)))
+  -- angle limits: how far the from angle minus the to angle is below an active angle_min
+  pub angle-lower : (b : ℕ) → b < branches ws → angled ws b ≡ true → AtMost (angleMin ws xs b ⊖ (va ws x (from ws b) ⊖ va ws x (to ws b)))
+  -- angle limits: how far it is above an active angle_max
+  pub angle-upper : (b : ℕ) → b < branches ws → angled ws b ≡ true → AtMost (va ws x (from ws b) ⊖ va ws x (to ws b) ⊖ angleMax ws xs b)
+  -- thermal limits: how far the hypotenuse of the flows at the from end is above an active s_max above 0
+  pub rating-from : (b : ℕ) → b < branches ws → rated ws xs b ≡ true → AtMost (hypotenuse (pFrom (flows ws xs x) b) (qFrom (flows ws xs x) b) ⊖ sMax ws xs b)
+  -- thermal limits: how far the hypotenuse of the flows at the to end is above it
+  pub rating-to : (b : ℕ) → b < branches ws → rated ws xs b ≡ true → AtMost (hypotenuse (pTo (flows ws xs x) b) (qTo (flows ws xs x) b) ⊖ sMax ws xs b)
+  -- epigraph: how far a curve's value is above its epigraph column
+  pub curve : (g : ℕ) → g < generators ws → curved ws g ≡ true → AtMost (curveValue ws xs g (pg ws x g) ⊖ epigraph ws x g)
+  -- objective difference over max(1, absolute objective)
+  pub objective : AtMost (absolute (solver ⊖ ownObjective ws xs x) ⊘ maximum (absolute (ownObjective ws xs x)) one64)
+
+-- not above the tolerance, as the check's maxima have it; a NaN is not above either, and Kept says that there is none
+abbrev pub Within : Float → Type 0
+Within x = lt tiny64 x ≡ false
+
+pub record Accepted (ws : List ℕ) (xs x : List Float) (solver : Float) (lent : ℕ) : Type 0 where
+  pub sound : Sound ws xs x solver lent
+  -- every bus is balanced
+  pub active : (i : ℕ) → i < buses ws → Within (absolute (pBalance ws xs x (flows ws xs x) i))
+  pub reactive : (i : ℕ) → i < buses ws → Within (absolute (qBalance ws xs x (flows ws xs x) i))
+  -- every column is in its bounds, every reference angle is 0, every active angle bound and every rating is kept
+  pub bounds : (j : ℕ) → j < columns ws → Within (positiveViolation (getD x j nan) (getD (columnLower ws xs) j nan) (getD (columnUpper ws xs) j nan))
+  pub reference : (r : ℕ) → r < references ws → Within (absolute (va ws x (referred ws r)))
+  pub angle : (b : ℕ) → b < branches ws → angled ws b ≡ true → Within (positiveViolation (va ws x (from ws b) ⊖ va ws x (to ws b)) (angleMin ws xs b) (angleMax ws xs b))
+  pub rating : (b : ℕ) → b < branches ws → rated ws xs b ≡ true
+      → Within (maximum (maximum (hypotenuse (pFrom (flows ws xs x) b) (qFrom (flows ws xs x) b)) (hypotenuse (pTo (flows ws xs x) b) (qTo (flows ws xs x) b)) ⊖ sMax ws xs b) zero64)
+  -- every epigraph column reaches its curve, and the solver's objective is the point's
+  pub curve : (g : ℕ) → g < generators ws → curved ws g ≡ true → Within (maximum (curveValue ws xs g (pg ws x g) ⊖ epigraph ws x g) zero64)
+  pub objective : Within (absolute (solver ⊖ ownObjective ws xs x) ⊘ maximum (absolute (ownObjective ws xs x)) one64)

@@ -1,0 +1,1 @@
+// What an accepted point is (specs/Accepted.antt), and that the check says 0 exactly there (proofs/Kept.antt).

@@ -1,0 +1,4 @@
+pub mod Outputs
+pub mod Scratch
+pub mod NonFinite
+pub mod Sums

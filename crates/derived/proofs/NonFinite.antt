@@ -1,0 +1,107 @@
+-- Laws of the first number that is not finite: in lists one after the other, and in the front of a list.
+use mathlib.Core.Path.{_≡_, refl, sym, ap, _∙_}
+use mathlib.Core.List.{List, _++_, append-assoc}
+use mathlib.Core.Bool.{Bool, true, false, cond}
+use Prim.Native.Nat.{ℕ, zero, suc, _+_, _*_, _<_, _≤_}
+use native.Mathlib.Nat.{zero-add, add-zero}
+use native.Mathlib.Omega.{arith}
+use lib.Ieee.{Float, nan}
+use lib.ListN.{length, getD, take, length-append, List·getD-append}
+use lib.Seq.{getD-take, getD-append-add, length-take-le}
+use lib.Dec.{eqb}
+use borrow.Author.Tests.{eqb-true}
+use Rattle.base.specs.declared.Fault.{Fault}
+use Rattle.base.specs.Fault.{clear, fault, unless, orElse, first}
+use Rattle.base.specs.Loop.{loop}
+use Rattle.base.proofs.Firsts.{Proper, unless-proper, first-proper}
+use Rattle.float.specs.Number.{isFinite}
+use Rattle.acopf.specs.Factor.{firstNonFinite}
+use Rattle.derived.specs.Scratch.{listed, nonFiniteFrom}
+
+or-clear-right : (f : Fault) → Proper f → orElse f clear ≡ f
+unfolding orElse
+or-clear-right f p = go (eqb (f .number) 0) refl
+  where
+    go : (b : Bool) → eqb (f .number) 0 ≡ b → cond b clear f ≡ f
+    go true e = sym (p (eqb-true (f .number) 0 e))
+    go false e = refl
+
+or-assoc : (f g h : Fault) → orElse (orElse f g) h ≡ orElse f (orElse g h)
+unfolding orElse
+or-assoc f g h = go (eqb (f .number) 0) refl
+  where
+    go : (b : Bool) → eqb (f .number) 0 ≡ b → cond (eqb (cond b g f .number) 0) h (cond b g f) ≡ cond b (cond (eqb (g .number) 0) h g) f
+    go true e = refl
+    go false e = rw e
+
+-- the same faults at each place below n
+pub first-same : (n : ℕ) (f g : ℕ → Fault) → ((i : ℕ) → i < n → f i ≡ g i) → first n f ≡ first n g
+unfolding first loop
+first-same zero f g h = refl
+first-same (suc n) f g h = rw (h n (omega arith), first-same n f g (λ i l. h i (omega arith)))
+
+-- m, then n more
+pub first-sum : (m n : ℕ) (f : ℕ → Fault) → ((i : ℕ) → Proper (f i)) → first (m + n) f ≡ orElse (first m f) (first n (λ i. f (m + i)))
+unfolding first loop
+first-sum m zero f p = rw add-zero (sym (or-clear-right (first m f) (first-proper m f p)))
+first-sum m (suc n) f p =
+    let e : m + suc n ≡ suc (m + n) = omega arith in
+    rw (e, first-sum m n f p) (or-assoc (first m f) (first n (λ i. f (m + i))) (f (m + n)))
+
+module _ (number from : ℕ) where
+  pub non-finite-proper : (l : List Float) → 0 < number → Proper (nonFiniteFrom number from l)
+  unfolding nonFiniteFrom
+  non-finite-proper l h = first-proper (length l) _ (λ i. unless-proper _ number _ h)
+
+  -- a list after another
+  pub non-finite-append : (a b : List Float) (next : ℕ) → 0 < number → next ≡ from + length a
+      → nonFiniteFrom number from (a ++ b) ≡ orElse (nonFiniteFrom number from a) (nonFiniteFrom number next b)
+  unfolding nonFiniteFrom
+  non-finite-append a b next h e =
+      rw (
+        length-append a b,
+        first-sum (length a) (length b) (λ i. unless (isFinite (getD (a ++ b) i nan)) (fault number (from + i))) (λ i. unless-proper _ number _ h),
+        first-same (length a) (λ i. unless (isFinite (getD (a ++ b) i nan)) (fault number (from + i))) (λ i. unless (isFinite (getD a i nan)) (fault number (from + i))) (λ i l. rw (List·getD-append a b nan i l)),
+        first-same (length b) (λ i. unless (isFinite (getD (a ++ b) (length a + i) nan)) (fault number (from + (length a + i)))) (λ i. unless (isFinite (getD b i nan)) (fault number (next + i)))
+            (λ i l. let q : from + (length a + i) ≡ next + i = omega arith in rw (getD-append-add a b i nan, q)),
+      )
+
+  -- the front of a list
+  pub non-finite-front : (l : List Float) (count : ℕ) → count ≤ length l
+      → first count (λ i. unless (isFinite (getD l i nan)) (fault number (from + i))) ≡ nonFiniteFrom number from (take count l)
+  unfolding nonFiniteFrom
+  non-finite-front l count h = rw (length-take-le count l h) (first-same count _ _ (λ i q. rw (getD-take count l i nan q)))
+
+-- from place 0
+pub non-finite-zero : (number : ℕ) (l : List Float) → nonFiniteFrom number 0 l ≡ firstNonFinite number l
+unfolding nonFiniteFrom firstNonFinite
+non-finite-zero number l = first-same (length l) _ _ (λ i q. rw zero-add)
+
+-- two fronts, one after the other
+pub two-fronts : (from count : ℕ) (a b : List Float) → count ≤ length a
+    → nonFiniteFrom 15 from (take count a ++ take count b) ≡ orElse (nonFiniteFrom 15 from (take count a)) (nonFiniteFrom 15 (from + count) (take count b))
+two-fronts from count a b h = non-finite-append 15 from (take count a) (take count b) (from + count) (omega arith) (rw (length-take-le count a h))
+
+four-parts : (u v w s : List Float) (i j k : ℕ) → i ≡ length u → j ≡ i + length v → k ≡ j + length w
+    → firstNonFinite 15 (u ++ (v ++ (w ++ s))) ≡ orElse (nonFiniteFrom 15 0 u) (orElse (nonFiniteFrom 15 i v) (orElse (nonFiniteFrom 15 j w) (nonFiniteFrom 15 k s)))
+four-parts u v w s i j k ei ej ek =
+    rw (
+      ← non-finite-zero,
+      non-finite-append 15 0 u (v ++ (w ++ s)) i (omega arith) (rw zero-add ei),
+      non-finite-append 15 i v (w ++ s) j (omega arith) ej,
+      non-finite-append 15 j w s k (omega arith) ek,
+    )
+
+-- 15 list after list: the injections, the flows at the from end, those at the to end, the objectives
+pub listed-fault : (n m : ℕ) (p q pf qf pt qt s : List Float) → n ≤ length p → n ≤ length q → m ≤ length pf → m ≤ length qf → m ≤ length pt → m ≤ length qt
+    → firstNonFinite 15 (listed n m p q pf qf pt qt ++ s)
+    ≡ orElse (nonFiniteFrom 15 0 (take n p ++ take n q)) (orElse (nonFiniteFrom 15 (2 * n) (take m pf ++ take m qf))
+    (orElse (nonFiniteFrom 15 (2 * n + 2 * m) (take m pt ++ take m qt)) (nonFiniteFrom 15 (2 * n + 4 * m) s)))
+listed-fault n m p q pf qf pt qt s hp hq h1 h2 h3 h4 =
+    ap (firstNonFinite 15) regroup ∙ four-parts (take n p ++ take n q) (take m pf ++ take m qf) (take m pt ++ take m qt) s (2 * n) (2 * n + 2 * m) (2 * n + 4 * m)
+    (simp (length-append, length-take-le n p hp, length-take-le n q hq) (omega arith))
+    (simp (length-append, length-take-le m pf h1, length-take-le m qf h2) (omega arith))
+    (simp (length-append, length-take-le m pt h3, length-take-le m qt h4) (omega arith))
+  where
+    regroup : listed n m p q pf qf pt qt ++ s ≡ (take n p ++ take n q) ++ ((take m pf ++ take m qf) ++ ((take m pt ++ take m qt) ++ s))
+    regroup = simp append-assoc

@@ -1,0 +1,3 @@
+pub mod Outputs
+pub mod Agree
+pub mod Scratch

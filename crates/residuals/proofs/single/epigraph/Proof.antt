@@ -1,0 +1,37 @@
+use native.Mathlib.Omega.{arith}
+use borrow.Author.Needs.{needs}
+use Rattle.residuals.proofs.single.epigraph.Statement.{statement}
+use Rattle.residuals.proofs.single.epigraph.Tie as tie
+
+curve-value-requires : tie.Need-curve-value-requires
+curve-value-requires c κs = search needs
+
+mul-over : tie.Need-mul-over
+mul-over c = omega (arith, c .before .before .before .before .pre .2 (c .before .if1 .taken))
+
+shared-slice-read-over : tie.Need-shared-slice-read-over
+shared-slice-read-over c = omega (arith, c .before .before .before .before .before .pre .2 (c .before .before .if1 .taken))
+
+maximum-requires : tie.Need-maximum-requires
+maximum-requires c κs = search needs
+
+maximum-requires-2 : tie.Need-maximum-requires-2
+maximum-requires-2 c κs = search needs
+
+returns : tie.Need-returns
+returns c = rw (c .before .before .before .before .if1 .taken, c .maximum2 .ensures, c .before .maximum .ensures, c .before .before .before .curve-value .ensures)
+
+returns-2 : tie.Need-returns-2
+returns-2 c = search needs
+
+pub epigraph-spec : {M : Type 1} → statement M
+epigraph-spec =
+    tie.close
+    (tie.spec
+    curve-value-requires
+    mul-over
+    shared-slice-read-over
+    maximum-requires
+    maximum-requires-2
+    returns
+    returns-2)

@@ -1,0 +1,3 @@
+pub mod Residuals
+pub mod Section
+pub mod Derived
