@@ -1,7 +1,11 @@
 # make run: proves, builds and runs the main program, depot, on examples/depot_m.txt (CASE=case9: on examples/case9.txt).
 # make test: the gate. make fmt: lays out every Rattle file.
 # make replay: the stored answers of the original Rust, held to the definitions (some minutes; not in the gate).
-.PHONY: run test fmt replay
+# make differential, files, platform, bench: the original Rust beside the port; they need what tests/oracle/README.md names. N: how many
+# cases; SEED. make answers: writes the answers of crates/oracle_answers anew.
+.PHONY: run test fmt replay differential files platform answers bench
+N = 10000
+SEED = 1998
 
 # the tests that the gate runs after rt ci
 TESTS = tests/gate-paths tests/boundary/run tests/depot/run
@@ -21,3 +25,18 @@ fmt:
 
 replay:
 	@tests/oracle/replay
+
+differential:
+	@tests/differential/run $(N) $(SEED)
+
+files:
+	@tests/differential/run files $(N) $(SEED)
+
+platform:
+	@tests/differential/run platform $(N) $(SEED)
+
+answers:
+	@tests/differential/run store $(SEED)
+
+bench:
+	@tests/bench/run

@@ -4,17 +4,13 @@
 //! bits of each) and any number of `point SOLVER ...`, all numbers in hexadecimal.
 //! Lines of an earlier answer are passed over, so that a stored file can be run again.
 //!
-//! `refusal NUMBER PLACE` is document 01's, worked out here from the text's answer:
-//! 7 to 10 from the name in its error; 11 from the constants, objective constant and
-//! starts that it built (the text itself goes on); 13 to 16 from its error, the place
-//! from the point, from its outputs or from its residuals; 14, which the text does not
-//! have, from the point.
+//! `refusal NUMBER PLACE` is document 01's (answers.rs).
 
+mod answers;
+
+use answers::Network;
 use std::fmt::Write as _;
 use std::io::{BufWriter, Read, Write};
-
-const TOLERANCE: f64 = 1.0e-6;
-const SWING: f64 = 1024.0;
 
 fn main() {
     let mut input = String::new();
@@ -90,25 +86,15 @@ fn answer(case: Option<Case>, out: &mut impl Write) {
     say(format!("case {}", case.name));
     say(words("words", &case.words));
     say(same("numbers", &case.numbers));
-    let (Some(instance), Some(lifted)) = (
-        oracle_text::network(&case.words, &case.numbers),
-        oracle_lifted::network(&case.words, &case.numbers),
-    ) else {
-        say("form".to_owned());
-        return;
-    };
-    let count = |kind| case.words.iter().filter(|&&word| word >> 28 == kind).count();
-    let (n, k, m) = (count(2), count(3), count(4));
-    let model = match oracle_text::compile(&instance) {
-        Ok(model) => model,
-        Err(message) => {
-            let (number, place) = refused_network(&message, n, k);
+    let compiled = match answers::network(&case.words, &case.numbers) {
+        Network::Form => return say("form".to_owned()),
+        Network::Error { message, refusal } => {
             say(format!("error {message}"));
-            say(format!("refusal {number} {place}"));
-            return;
+            return say(format!("refusal {} {}", refusal.0, refusal.1));
         }
+        Network::Compiled(compiled) => compiled,
     };
-    let file = model.file();
+    let file = &compiled.file;
     say("compiled".to_owned());
     say(words("model", &file.words));
     say(bits("constants", &file.constants));
@@ -118,77 +104,24 @@ fn answer(case: Option<Case>, out: &mut impl Write) {
     say(bits("rowlower", &file.row_lower));
     say(bits("rowupper", &file.row_upper));
     say(bits("objective", &[file.objective]));
-    let factors = file.constants.iter().chain([&file.objective]);
-    if let Some(place) = factors.chain(&file.start).position(|v| !v.is_finite()) {
+    if let Some(place) = compiled.factor {
         say(format!("refusal 11 {place}"));
     }
-
-    let lifted = oracle_lifted::compile(&lifted).expect("compiled above");
     for point in &case.points {
         say(same("point", point));
         let (&solver, x) = point.split_first().expect("a solver objective");
-        let lifted = lifted.check(x, solver);
-        match model.check(x, solver) {
-            Ok(checked) => {
-                say("accepted".to_owned());
-                say(bits("outputs", &checked.outputs));
-                say(bits("own", &[checked.objective]));
-                say(bits("residuals", &checked.residuals));
-                if let Some(column) = swing(x, n) {
-                    say(format!("refusal 14 {column}"));
-                }
-            }
-            Err(message) => {
-                // The error tells residuals in decimals; those of the copy have the bits.
-                let kind = message.split(" (max").next().unwrap_or(&message);
-                say(format!("error {kind}"));
-                let Ok(lifted) = lifted else {
-                    assert!(message.contains("wrong-length"));
-                    let place = if x.len() == model.columns() {
-                        x.iter().position(|v| !v.is_finite()).expect("a column")
-                    } else {
-                        model.columns()
-                    };
-                    say(format!("refusal 13 {place}"));
-                    continue;
-                };
-                say(bits("outputs", &lifted.outputs));
-                say(bits("own", &[lifted.objective]));
-                say(bits("residuals", &lifted.residuals));
-                let (number, place) = if let Some(column) = swing(x, n) {
-                    (14, column)
-                } else if message.contains("non-finite independently") {
-                    assert_eq!(lifted.outputs.len(), 2 * n + 4 * m);
-                    let values = lifted.outputs.iter().chain([&solver, &lifted.objective]);
-                    let place = values.into_iter().position(|v| !v.is_finite());
-                    (15, place.expect("a non-finite value"))
-                } else {
-                    assert!(message.contains("validation failed"));
-                    let above = lifted.residuals.iter().position(|&r| r > TOLERANCE);
-                    (16, above.expect("a residual above its tolerance") + 1)
-                };
-                say(format!("refusal {number} {place}"));
-            }
+        let answered = compiled.point(x, solver);
+        say(match answered.error {
+            None => "accepted".to_owned(),
+            Some(kind) => format!("error {kind}"),
+        });
+        if let Some(answer) = answered.answer {
+            say(bits("outputs", &answer.outputs));
+            say(bits("own", &[answer.objective]));
+            say(bits("residuals", &answer.residuals));
         }
-    }
-}
-
-fn swing(x: &[f64], n: usize) -> Option<usize> {
-    x[..n].iter().position(|va| !(-SWING..=SWING).contains(va))
-}
-
-/// The harness names buses, generators and branches by their index.
-fn refused_network(message: &str, n: usize, k: usize) -> (usize, usize) {
-    let (kind, rest) = message.split_once('[').expect("a name");
-    let (index, rest) = rest.split_once(']').expect("an index");
-    let index: usize = index.parse().expect("an index");
-    match (kind, rest.contains("overflows when squared")) {
-        ("vm", false) => (7, n + index),
-        ("pg", false) => (7, 2 * n + index),
-        ("qg", false) => (7, 2 * n + k + index),
-        ("angle_difference", false) => (8, index),
-        ("thermal_limit", false) => (9, index),
-        ("thermal_limit", true) => (10, index),
-        _ => panic!("unknown error: {message}"),
+        if let Some((number, place)) = answered.refusal {
+            say(format!("refusal {number} {place}"));
+        }
     }
 }

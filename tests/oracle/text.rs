@@ -19,9 +19,13 @@ pub use standin::powerio_prob::AcOpfInstance;
 
 use alloc::{string::String, vec::Vec};
 
+// With `--cfg platform`, for timing only, the platform's functions stand in the place of fdlibm's.
 extern "C" {
+    #[cfg_attr(platform, link_name = "sin")]
     fn fdlibm_sin(x: f64) -> f64;
+    #[cfg_attr(platform, link_name = "cos")]
     fn fdlibm_cos(x: f64) -> f64;
+    #[cfg_attr(platform, link_name = "hypot")]
     fn fdlibm_hypot(x: f64, y: f64) -> f64;
 }
 

@@ -1,0 +1,56 @@
+-- `oracle_answers::values_at` is safe and ends. The loop keeps the list's length.
+use mathlib.Core.Path.{_≡_}
+use Prim.Native.Nat.{_≤_, _-_}
+use lib.ListN.{length}
+use borrow.Author.Needs.{needs}
+use Rattle.oracle_answers.proofs.values_at.Statement.{statement}
+use Rattle.oracle_answers.proofs.values_at.Tie as tie
+
+abbrev Inv-loop : tie.InvT-loop
+Inv-loop bytes at i out₀ k₀ out k = (k ≤ 256) × (256 ≡ length out)
+
+abbrev μ-loop : tie.MeasureT-loop
+μ-loop bytes at i out₀ k₀ out k = 256 - k
+
+loop-holds : tie.Need-loop-holds Inv-loop μ-loop
+loop-holds c = search needs
+
+add-value : tie.Need-add-value Inv-loop μ-loop
+add-value c = search needs
+
+value-requires : tie.Need-value-requires Inv-loop μ-loop
+value-requires c κs = search needs
+
+mul-out : tie.Need-mul-out Inv-loop μ-loop
+mul-out c = search needs
+
+array-write-out : tie.Need-array-write-out Inv-loop μ-loop
+array-write-out c = search needs
+
+add-k : tie.Need-add-k Inv-loop μ-loop
+add-k c = search needs
+
+loop-less : tie.Need-loop-less Inv-loop μ-loop
+loop-less c = search needs
+
+loop-again : tie.Need-loop-again Inv-loop μ-loop
+loop-again c = search needs
+
+returns : tie.Need-returns Inv-loop μ-loop
+returns c = search needs
+
+pub values-at-spec : {M : Type 1} → statement M
+values-at-spec =
+    tie.close
+    (tie.spec
+    Inv-loop
+    μ-loop
+    loop-holds
+    add-value
+    value-requires
+    mul-out
+    array-write-out
+    add-k
+    loop-less
+    loop-again
+    returns)
