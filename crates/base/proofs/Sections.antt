@@ -58,6 +58,13 @@ module _ {A : Type 0} where
       let e : to + (i + 1) ≡ to + i + 1 = omega arith in
       rw (← replicate-append-replicate i 1 a, e) (then p (wrote-one m (to + i) a))
 
+  pub table-value : (n : ℕ) (a : A) → table n (λ _. a) ≡ replicate n a
+  unfolding table loop
+  table-value zero a = refl
+  table-value (suc n) a =
+      let e : n + 1 ≡ suc n = omega arith in
+      ap (λ l. l ++ (a ∷ [])) (table-value n a) ∙ replicate-append-replicate n 1 a ∙ ap (λ k. replicate k a) e
+
   -- ---- a table, one element a turn
 
   pub table-none : {l : List A} {to : ℕ} (f : ℕ → A) → Wrote l to (table 0 f) l (to + 0)

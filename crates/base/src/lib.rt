@@ -1,4 +1,8 @@
 // What the network file, the model file and the refusals share: a word's two parts, and the answer type of every refusal.
+mod section;
+
+pub use section::fill;
+pub use section::put_if;
 ghost use mathlib.Core.Path.{_≡_};
 ghost use Rattle.base.specs.Word.{kindOf, loadOf};
 ghost use Rattle.base.specs.Fault.{packed};

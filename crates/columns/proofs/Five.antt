@@ -5,7 +5,7 @@ use Prim.Native.Nat.{ℕ, zero, suc, _+_, _-_, _*_, _≤_}
 use native.Mathlib.Nat.{add-zero}
 use native.Mathlib.Omega.{arith}
 use lib.Ieee.{Float, neg}
-use lib.ListN.{length, drop}
+use lib.ListN.{length, drop, replicate}
 use Rattle.base.specs.Loop.{loop, table, each}
 use Rattle.base.proofs.Firsts.{Clear}
 use Rattle.network.specs.Bounds.{huge64}
@@ -19,7 +19,7 @@ use Rattle.columns.specs.declared.ColumnList.{ColumnList}
 use Rattle.columns.specs.declared.ColumnList.the-variants.{Lower, Upper, Start}
 use Rattle.base.specs.Section.{Wrote}
 use Rattle.columns.specs.Value.{columnValue, vaValue, vmValue, generatorValue, epigraphValue}
-use Rattle.base.proofs.Sections.{then, wrote-front}
+use Rattle.base.proofs.Sections.{then, wrote-front, table-value}
 
 -- ---- room
 
@@ -82,23 +82,23 @@ module _ (ws : List ℕ) (xs : List Float) (list : ColumnList) where
 -- a to d are the list after each section but the last, i to m the places after them
 module _ (ws : List ℕ) (xs : List Float) {l a b c d l′ : List Float} {n k i j h m next : ℕ} (counted : n ≡ buses ws) (generated : k ≡ generators ws) (enough : columns ws ≤ length l) where
   pub lower-is : {e : ℕ} → e ≡ epigraphsBefore ws k
-      → Wrote l 0 (table n (λ _. neg huge64)) a i → Wrote a i (table n (vmValue ws xs Lower)) b j
+      → Wrote l 0 (replicate n (neg huge64)) a i → Wrote a i (table n (vmValue ws xs Lower)) b j
       → Wrote b j (table k (generatorValue ws xs Lower 0)) c h → Wrote c h (table k (generatorValue ws xs Lower 1)) d m
-      → Wrote d m (table e (λ _. neg huge64)) l′ next
+      → Wrote d m (replicate e (neg huge64)) l′ next
       → l′ ≡ columnLower ws xs ++ drop (length (columnLower ws xs)) l
   unfolding columnLower
   lower-is e va vm pg qg epigraph =
-      let w : Wrote l 0 (columnLower ws xs) l′ next = rw (sections ws xs Lower k _ _ _, e, counted, generated) at (then (then (then (then va vm) pg) qg) epigraph) in
+      let w : Wrote l 0 (columnLower ws xs) l′ next = rw (sections ws xs Lower k _ _ _, ← table-value n (neg huge64), ← table-value _ (neg huge64), e, counted, generated) at (then (then (then (then va vm) pg) qg) epigraph) in
       wrote-front w (omega (arith, lower-columns ws xs, enough))
 
   pub upper-is : {e : ℕ} → e ≡ epigraphsBefore ws k
-      → Wrote l 0 (table n (λ _. huge64)) a i → Wrote a i (table n (vmValue ws xs Upper)) b j
+      → Wrote l 0 (replicate n huge64) a i → Wrote a i (table n (vmValue ws xs Upper)) b j
       → Wrote b j (table k (generatorValue ws xs Upper 0)) c h → Wrote c h (table k (generatorValue ws xs Upper 1)) d m
-      → Wrote d m (table e (λ _. huge64)) l′ next
+      → Wrote d m (replicate e huge64) l′ next
       → l′ ≡ columnUpper ws xs ++ drop (length (columnUpper ws xs)) l
   unfolding columnUpper
   upper-is e va vm pg qg epigraph =
-      let w : Wrote l 0 (columnUpper ws xs) l′ next = rw (sections ws xs Upper k _ _ _, e, counted, generated) at (then (then (then (then va vm) pg) qg) epigraph) in
+      let w : Wrote l 0 (columnUpper ws xs) l′ next = rw (sections ws xs Upper k _ _ _, ← table-value n huge64, ← table-value _ huge64, e, counted, generated) at (then (then (then (then va vm) pg) qg) epigraph) in
       wrote-front w (omega (arith, upper-columns ws xs, enough))
 
   pub start-is : Wrote l 0 (table n (vaValue xs)) a i → Wrote a i (table n (vmValue ws xs Start)) b j

@@ -1,10 +1,10 @@
 // The three column lists, from a network that 1 to 10 do not refuse. The rest of the lent list stays as it was.
 use crate::ColumnList;
 use crate::sections::epigraph_starts;
-use crate::sections::fill;
 use crate::sections::generator_section;
 use crate::sections::va_starts;
 use crate::sections::vm_section;
+use base::fill;
 use factor::epigraph_count;
 use network::Sizes;
 use network::header_costs;

@@ -7,24 +7,11 @@ use crate::bounds::vm_upper;
 ghost use mathlib.Core.Path.{_≡_};
 ghost use Prim.Native.Nat.{_+_, _*_, _≤_};
 ghost use lib.ListN.{length};
-ghost use Rattle.base.specs.Loop.{table, each, keep};
+ghost use Rattle.base.specs.Loop.{table, each};
 ghost use Rattle.network.specs.Fault.{faultTables};
 ghost use Rattle.network.specs.Network.{buses, generators, costs, epigraphsBefore};
 ghost use Rattle.base.specs.Section.{Wrote};
 ghost use Rattle.columns.specs.Value.{vaValue, vmValue, generatorValue, epigraphValue};
-
-// The same value `count` times.
-pub(crate) fn fill(out: &mut [f64], to: usize, count: usize, value: f64) -> usize
-    requires { ⌜ to + count ≤ length (now out) ⌝ }
-    ensures { λ r. ⌜ (Wrote (now (out .entry)) to (table count (λ i. value)) (now (out .exit)) r) × (r ≡ to + count) ⌝ }
-{
-    let mut i = 0usize;
-    while i < count {
-        out[to + i] = value;
-        i += 1;
-    }
-    to + count
-}
 
 // A start of va is not clamped.
 pub(crate) fn va_starts(numbers: &[f64], n: usize, out: &mut [f64], to: usize) -> usize
@@ -87,18 +74,6 @@ pub(crate) fn generator_section(
     to + k
 }
 
-// The value, where the test holds.
-fn put_if(test: bool, value: f64, out: &mut [f64], to: usize) -> usize
-    requires { ⌜ to + length (keep test value) ≤ length (now out) ⌝ }
-    ensures { λ r. ⌜ Wrote (now (out .entry)) to (keep test value) (now (out .exit)) r ⌝ }
-{
-    if test {
-        out[to] = value;
-        return to + 1;
-    }
-    to
-}
-
 pub(crate) fn epigraph_starts(
     words: &[u32],
     numbers: &[f64],
@@ -121,7 +96,7 @@ pub(crate) fn epigraph_starts(
         let curved = factor::is_curved(priced, points);
         let bounded = network::generator_bounded(w);
         let start = factor::epigraph_start(numbers, at, points, bounded);
-        next = put_if(curved, start, out, next);
+        next = base::put_if(out, next, curved, start);
         at += 9 + 2 * points;
         g += 1;
     }

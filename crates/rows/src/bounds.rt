@@ -1,6 +1,6 @@
 // The rows' bounds: those of balances and references are 0, those of angle differences are the table's, and every later row is a margin from 0 up.
-use crate::section::fill;
-use crate::section::put_active;
+use base::fill;
+use base::put_if;
 use factor::counted;
 use factor::rated_count;
 use factor::segment_count;
@@ -56,7 +56,7 @@ fn write_angles(
     let mut b = 0usize;
     while b < m {
         let angled = branch_angled(words[1 + n + k + b]);
-        next = put_active(out, next, angled, numbers[start + 11 * b + offset]);
+        next = put_if(out, next, angled, numbers[start + 11 * b + offset]);
         b += 1;
     }
     next

@@ -1,6 +1,5 @@
 // Two of compile's lists, row lower and row upper, and what the row count is made of.
 mod bounds;
-mod section;
 
 pub use bounds::angle_count;
 pub use bounds::write_row_lower;

@@ -1,3 +1,4 @@
+use Rattle.base.proofs.Loops.{length-keep}
 use mathlib.Core.Path.{_≡_, refl, sym}
 use Prim.Native.Nat.{_-_, _≤_}
 use native.Mathlib.Omega.{arith}
@@ -51,7 +52,7 @@ epigraph-start-requires : tie.Need-epigraph-start-requires Inv-loop μ-loop
 epigraph-start-requires c κs = let s = c .before .before .before .before .before .before .before .before .before in let l = c .before .before .before .before .before .loop in let R = room _ _ (s .pre .3) (s .pre .0) (s .pre .1) in R .fits (l .g) (l .at) _ (c .before .before .before .before .loop-test .taken) (l .inv .2) (c .before .before .generator-points .ensures)
 
 put-if-requires : tie.Need-put-if-requires Inv-loop μ-loop
-put-if-requires c κs = let s = c .before .before .before .before .before .before .before .before .before .before .before in let l = c .before .before .before .before .before .before .before .loop in rw (epigraph-is (s .args .words .now) (s .args .numbers .now) (l .g) (s .pre .0) (s .pre .2) (l .inv .2) (c .before .before .before .before .generator-points .ensures) (c .before .before .generator-bounded .ensures) (c .before .before .before .is-curved .ensures) (c .before .epigraph-start .ensures)) (omega (arith, epigraphs-fit (s .args .words .now) (s .args .numbers .now) (s .args .k) (l .g) (c .before .before .before .before .before .before .loop-test .taken), l .inv .1, l .inv .3 .follows, s .pre .4))
+put-if-requires c κs = let s = c .before .before .before .before .before .before .before .before .before .before .before in let l = c .before .before .before .before .before .before .before .loop in rw (← length-keep (c .before .before .before .is-curved .result) (c .before .epigraph-start .result), epigraph-is (s .args .words .now) (s .args .numbers .now) (l .g) (s .pre .0) (s .pre .2) (l .inv .2) (c .before .before .before .before .generator-points .ensures) (c .before .before .generator-bounded .ensures) (c .before .before .before .is-curved .ensures) (c .before .epigraph-start .ensures)) (omega (arith, epigraphs-fit (s .args .words .now) (s .args .numbers .now) (s .args .k) (l .g) (c .before .before .before .before .before .before .loop-test .taken), l .inv .1, l .inv .3 .follows, s .pre .4))
 
 mul-at-2 : tie.Need-mul-at-2 Inv-loop μ-loop
 mul-at-2 c = let s = c .before .before .before .before .before .before .before .before .before .before .before .before .before .before in let l = c .before .before .before .before .before .before .before .before .before .before .loop in let R = room _ _ (s .pre .3) (s .pre .0) (s .pre .1) in let h = R .fits (l .g) (l .at) _ (c .before .before .before .before .before .before .before .before .before .loop-test .taken) (l .inv .2) (c .before .before .before .before .before .before .before .generator-points .ensures) in omega (arith, h .0, h .1)

@@ -36,23 +36,23 @@ shared-slice-read-branch-angled c = search needs
 branch-angled-requires : tie.Need-branch-angled-requires Inv-loop μ-loop
 branch-angled-requires c κs = search needs
 
-mul-put-active : tie.Need-mul-put-active Inv-loop μ-loop
-mul-put-active c = search needs
+mul-put-if : tie.Need-mul-put-if Inv-loop μ-loop
+mul-put-if c = search needs
 
-add-put-active : tie.Need-add-put-active Inv-loop μ-loop
-add-put-active c = search needs
+add-put-if : tie.Need-add-put-if Inv-loop μ-loop
+add-put-if c = search needs
 
-add-put-active-2 : tie.Need-add-put-active-2 Inv-loop μ-loop
-add-put-active-2 c = search needs
+add-put-if-2 : tie.Need-add-put-if-2 Inv-loop μ-loop
+add-put-if-2 c = search needs
 
-mul-put-active-2 : tie.Need-mul-put-active-2 Inv-loop μ-loop
-mul-put-active-2 c = search needs
+mul-put-if-2 : tie.Need-mul-put-if-2 Inv-loop μ-loop
+mul-put-if-2 c = search needs
 
-shared-slice-read-put-active : tie.Need-shared-slice-read-put-active Inv-loop μ-loop
-shared-slice-read-put-active c = search needs
+shared-slice-read-put-if : tie.Need-shared-slice-read-put-if Inv-loop μ-loop
+shared-slice-read-put-if c = search needs
 
-put-active-requires : tie.Need-put-active-requires Inv-loop μ-loop
-put-active-requires c κs = angles-room (c .before .before .before .before .before .before .before .before .before .args .words .now) (c .before .before .before .before .before .before .before .before .before .args .numbers .now) (c .before .before .before .before .before .before .before .before .before .args .offset) (c .before .before .before .before .before .loop .b) (c .before .before .before .before .before .before .before .before .before .args .m) (angled-is _ _ (c .before .before .before .before .before .before .before .before .before .pre .0) (c .before .before .before .before .before .before .before .before .before .pre .1) (c .before .before .branch-angled .ensures)) (omega arith) (c .before .before .before .before .before .before .before .before .before .pre .6) (c .before .before .before .before .before .loop .inv .1) (c .before .before .before .before .before .loop .inv .2)
+put-if-requires : tie.Need-put-if-requires Inv-loop μ-loop
+put-if-requires c κs = angles-room (c .before .before .before .before .before .before .before .before .before .args .words .now) (c .before .before .before .before .before .before .before .before .before .args .numbers .now) (c .before .before .before .before .before .before .before .before .before .args .offset) (c .before .before .before .before .before .loop .b) (c .before .before .before .before .before .before .before .before .before .args .m) (angled-is _ _ (c .before .before .before .before .before .before .before .before .before .pre .0) (c .before .before .before .before .before .before .before .before .before .pre .1) (c .before .before .branch-angled .ensures)) (omega arith) (c .before .before .before .before .before .before .before .before .before .pre .6) (c .before .before .before .before .before .loop .inv .1) (c .before .before .before .before .before .loop .inv .2)
 
 add-b : tie.Need-add-b Inv-loop μ-loop
 add-b c = search needs
@@ -61,7 +61,7 @@ loop-less : tie.Need-loop-less Inv-loop μ-loop
 loop-less c = search needs
 
 loop-again : tie.Need-loop-again Inv-loop μ-loop
-loop-again c = (omega arith, omega (arith, c .before .before .put-active .kept), angles-turn (c .before .before .before .before .before .before .before .before .before .before .before .before .args .words .now) (c .before .before .before .before .before .before .before .before .before .before .before .before .args .numbers .now) (c .before .before .before .before .before .before .before .before .before .before .before .before .args .offset) (c .before .before .before .before .before .before .before .before .loop .b) (c .before .before .before .before .before .before .before .before .before .before .before .before .pre .1) (c .before .before .before .before .before .before .before .before .before .before .before .before .pre .2) (angled-is _ _ (c .before .before .before .before .before .before .before .before .before .before .before .before .pre .0) (c .before .before .before .before .before .before .before .before .before .before .before .before .pre .1) (c .before .before .before .before .before .branch-angled .ensures)) (c .before .before .before .before .before .before .before .before .loop .inv .2) (c .before .before .put-active .ensures))
+loop-again c = (omega arith, omega (arith, c .before .before .put-if .kept), angles-turn (c .before .before .before .before .before .before .before .before .before .before .before .before .args .words .now) (c .before .before .before .before .before .before .before .before .before .before .before .before .args .numbers .now) (c .before .before .before .before .before .before .before .before .before .before .before .before .args .offset) (c .before .before .before .before .before .before .before .before .loop .b) (c .before .before .before .before .before .before .before .before .before .before .before .before .pre .1) (c .before .before .before .before .before .before .before .before .before .before .before .before .pre .2) (angled-is _ _ (c .before .before .before .before .before .before .before .before .before .before .before .before .pre .0) (c .before .before .before .before .before .before .before .before .before .before .before .before .pre .1) (c .before .before .before .before .before .branch-angled .ensures)) (c .before .before .before .before .before .before .before .before .loop .inv .2) (c .before .before .put-if .ensures))
 
 same-length : tie.Need-same-length Inv-loop μ-loop
 same-length c = search needs
@@ -82,12 +82,12 @@ write-angles-spec =
     mul-branch-angled
     shared-slice-read-branch-angled
     branch-angled-requires
-    mul-put-active
-    add-put-active
-    add-put-active-2
-    mul-put-active-2
-    shared-slice-read-put-active
-    put-active-requires
+    mul-put-if
+    add-put-if
+    add-put-if-2
+    mul-put-if-2
+    shared-slice-read-put-if
+    put-if-requires
     add-b
     loop-less
     loop-again

@@ -1,8 +1,8 @@
 use native.Mathlib.Omega.{arith}
 use Rattle.base.proofs.Sections.{wrote-none, wrote-one}
 use borrow.Author.Needs.{needs}
-use Rattle.columns.proofs.sections.put_if.Statement.{statement}
-use Rattle.columns.proofs.sections.put_if.Tie as tie
+use Rattle.base.proofs.section.put_if.Statement.{statement}
+use Rattle.base.proofs.section.put_if.Tie as tie
 
 mul-out : tie.Need-mul-out
 mul-out c = search needs
@@ -23,4 +23,5 @@ returns-2 : tie.Need-returns-2
 returns-2 c = rw (c .if1 .left) (wrote-none _ _)
 
 pub put-if-spec : {M : Type 1} → statement M
-put-if-spec = tie.close (tie.spec mul-out slice-write-out add-result same-length returns returns-2)
+put-if-spec =
+    tie.close (tie.spec mul-out slice-write-out add-result same-length returns returns-2)

@@ -1,22 +1,22 @@
+use native.Mathlib.Omega.{arith}
+use native.Mathlib.Nat.{add-zero}
 use mathlib.Core.Path.{_≡_, refl}
 use Prim.Native.Nat.{_+_, _-_, _≤_}
-use native.Mathlib.Omega.{arith}
-use lib.ListN.{length}
-use Rattle.base.specs.Loop.{table}
+use lib.ListN.{length, length-set, replicate}
 use Rattle.base.specs.Section.{Wrote}
-use Rattle.base.proofs.Sections.{table-none, table-next}
+use Rattle.base.proofs.Sections.{wrote-none, wrote-value}
 use borrow.Author.Needs.{needs}
-use Rattle.columns.proofs.sections.fill.Statement.{statement}
-use Rattle.columns.proofs.sections.fill.Tie as tie
+use Rattle.base.proofs.section.fill.Statement.{statement}
+use Rattle.base.proofs.section.fill.Tie as tie
 
 abbrev Inv-loop : tie.InvT-loop
-Inv-loop out₀ to count value i₀ out i = (i ≤ count) × (length out ≡ length out₀) × Wrote out₀ to (table i (λ _. value)) out (to + i)
+Inv-loop out₀ to count value i₀ out i = (i ≤ count) × (length out ≡ length out₀) × Wrote out₀ to (replicate i value) out (to + i)
 
 abbrev μ-loop : tie.MeasureT-loop
 μ-loop out₀ to count value i₀ out i = count - i
 
 loop-holds : tie.Need-loop-holds Inv-loop μ-loop
-loop-holds c = (omega arith, refl, table-none _)
+loop-holds c = (omega arith, refl, rw add-zero (wrote-none _ _))
 
 add-out : tie.Need-add-out Inv-loop μ-loop
 add-out c = search needs
@@ -34,7 +34,7 @@ loop-less : tie.Need-loop-less Inv-loop μ-loop
 loop-less c = search needs
 
 loop-again : tie.Need-loop-again Inv-loop μ-loop
-loop-again c = (omega arith, search needs, table-next _ _ refl (c .before .loop .inv .2))
+loop-again c = (omega arith, simp length-set (omega arith), wrote-value _ _ (c .before .loop .inv .2))
 
 add-result : tie.Need-add-result Inv-loop μ-loop
 add-result c = search needs
