@@ -207,8 +207,7 @@ struct Lists {
 }
 
 fn lent(words: &[u32], numbers: &[f64]) -> Lists {
-    let [words, constants, columns, rows, _] =
-        ours::counts(words, numbers).map(|count| count as usize);
+    let [words, constants, columns, rows, _] = ours::counts(words, numbers);
     let list = |count| vec![0.0; count];
     Lists {
         words: vec![0; words],

@@ -112,7 +112,7 @@ pub fn compare(
         file.row_lower.len(),
         shared,
     ];
-    if counts != expected.map(|count| count as u64) {
+    if counts != expected {
         differences.push(format!("counts: {counts:?} and not {expected:?}"));
     }
     if objective.to_bits() != file.objective.to_bits() {

@@ -11,46 +11,14 @@ mod balance;
 mod cases;
 #[allow(dead_code)]
 mod networks;
+#[allow(dead_code)]
+mod ours;
 mod random;
 mod reader;
 
+use ours::nl;
 use random::Random;
 use std::collections::BTreeMap;
-
-#[link(name = "nl", kind = "static")]
-extern "C" {
-    fn nl_find_row(
-        words: *const u32,
-        length: usize,
-        constants: usize,
-        columns: usize,
-        r: usize,
-    ) -> u64;
-    fn nl_row_start(
-        words: *const u32,
-        length: usize,
-        constants: usize,
-        columns: usize,
-        r: usize,
-    ) -> usize;
-    fn nl_row_length(
-        words: *const u32,
-        length: usize,
-        constants: usize,
-        columns: usize,
-        r: usize,
-    ) -> usize;
-    fn nl_same(
-        words_a: *const u32,
-        words_a_length: usize,
-        constants_a: *const f64,
-        constants_a_length: usize,
-        words_b: *const u32,
-        words_b_length: usize,
-        constants_b: *const f64,
-        constants_b_length: usize,
-    ) -> u32;
-}
 
 #[derive(Clone, Default)]
 struct File {
@@ -282,13 +250,10 @@ fn expected(file: &File, constants: usize, r: usize) -> (u64, usize, usize, usiz
 }
 
 fn found(file: &File, constants: usize, r: usize) -> (u64, usize, usize, usize) {
-    let (words, length, columns) = (file.words.as_ptr(), file.words.len(), file.columns);
-    unsafe {
-        let fault = nl_find_row(words, length, constants, columns, r);
-        let start = nl_row_start(words, length, constants, columns, r);
-        let part = nl_row_length(words, length, constants, columns, r);
-        (fault >> 32, (fault & 0xffff_ffff) as usize, start, part)
-    }
+    let fault = nl::nl_find_row(&file.words, constants, file.columns, r);
+    let start = nl::nl_row_start(&file.words, constants, file.columns, r);
+    let part = nl::nl_row_length(&file.words, constants, file.columns, r);
+    (fault >> 32, (fault & 0xffff_ffff) as usize, start, part)
 }
 
 /// "Two models are the same exactly when words are equal and constants equal as numbers."
@@ -298,18 +263,7 @@ fn same_as_read(a: &File, b: &File) -> u32 {
 }
 
 fn same(a: &File, b: &File) -> u32 {
-    unsafe {
-        nl_same(
-            a.words.as_ptr(),
-            a.words.len(),
-            a.constants.as_ptr(),
-            a.constants.len(),
-            b.words.as_ptr(),
-            b.words.len(),
-            b.constants.as_ptr(),
-            b.constants.len(),
-        )
-    }
+    nl::nl_same(&a.words, &a.constants, &b.words, &b.constants)
 }
 
 fn twin(random: &mut Random, a: &File) -> File {
