@@ -1,9 +1,11 @@
 # make run: proves, builds and runs the main program, depot, on examples/depot_m.txt (CASE=case9: on examples/case9.txt).
+# make model: shows the model file of the same CASE as text (host/examples/model.rs), of any size; needs cargo.
+# make solve: solves the CASE with Ipopt and checks the point (examples/ipopt, docs/SOLVER.md); OPTIONS are Ipopt's, NAME=VALUE.
 # make test: the gate. make fmt: lays out every Rattle file.
 # make replay: the stored answers of the original Rust, held to the definitions (some minutes; not in the gate).
 # make differential, files, platform, bench: the original Rust beside the port; they need what tests/oracle/README.md names. N: how many
 # cases; SEED. make answers: writes the answers of crates/oracle_answers anew.
-.PHONY: run test fmt replay differential files platform answers bench
+.PHONY: run model solve case archives test fmt replay differential files platform answers bench
 N = 10000
 SEED = 1998
 
@@ -11,11 +13,28 @@ SEED = 1998
 TESTS = tests/gate-paths tests/boundary/run tests/depot/run
 
 CASE ?= depot_m
+ARCHIVES = target/staticlib/libnl.a target/staticlib/libvalidate.a target/staticlib/libcompile.a
 
 run:
 	@rt check depot >&2
 	@examples/pack examples/$(CASE).txt > target/$(CASE).bin
 	@target/bin/depot < target/$(CASE).bin
+
+model: case archives
+	@cargo run --quiet --offline --locked --release --manifest-path host/Cargo.toml --target-dir target/host --example model \
+		< target/$(CASE).bin
+
+solve: case archives
+	@cc -std=c11 -O2 -I include $$(pkg-config --cflags ipopt) examples/ipopt/solve.c $(ARCHIVES) $$(pkg-config --libs ipopt) -lm \
+		-o target/solve
+	@target/solve $(OPTIONS) < target/$(CASE).bin
+
+case:
+	@mkdir -p target
+	@examples/pack examples/$(CASE).txt > target/$(CASE).bin
+
+archives:
+	@tests/boundary/archives nl validate compile
 
 test:
 	@tests/gate $(TESTS)
