@@ -1,3 +1,4 @@
 pub mod Tokens
+pub mod Terms
 pub mod Pieces
 pub mod Whole

@@ -35,7 +35,7 @@ use Rattle.base.specs.Section.{Wrote}
 use Rattle.emit.specs.Tokens.{Token, fixed, numbered, begins, wordsFrom, numbersOf, begun, tokens, listTokens, partTokens, Penned, Room}
 use Rattle.emit.specs.Sized.{Sized}
 use Rattle.emit.specs.Parts.{sharedTokens}
-use Rattle.emit.specs.Balance.{balanceOf}
+use Rattle.emit.specs.Balance.{balanceOf, balancesOf}
 use Rattle.emit.specs.Rows.{angleTokens, thermalTokens, curveTokens}
 use Rattle.emit.specs.Objective.{sumHead, costCount, objectiveTokens}
 use Rattle.emit.specs.Whole.{busRows, branchRows, rowTokens}
@@ -157,7 +157,7 @@ abbrev own : List ℕ → Sizes
 own ws = record { buses = buses ws; generators = generators ws; branches = branches ws; references = references ws }
 
 rows-are : (ws : List ℕ) (xs : List Float) → rowParts (rows ws xs) ++ (fixed (word 12 0) ∷ tokens (objective ws xs) ++ (fixed (word 13 0) ∷ [])) ≡ rowTokens ws xs (own ws) (branchAt ws 0)
-unfolding rows rowTokens busRows branchRows
+unfolding rows rowTokens busRows balancesOf branchRows
 rows-are ws xs =
     let f = table (buses ws) (pBalance ws xs) in
     let g = table (buses ws) (qBalance ws xs) in
@@ -311,6 +311,9 @@ module _ (ws : List ℕ) (xs : List Float) (right : Clear (faultTables ws xs)) w
         words = rw (n, k, m, r) (omega (arith, G .words));
         numbers = rw m (omega (arith, G .numbers));
         few-numbers = omega (arith, G .numbers, G .few-numbers);
+        generator-bus = rw (n, k) (G .generator-bus);
+        from-bus = rw (n, k, m) (G .branch-from);
+        to-bus = rw (n, k, m) (G .branch-to);
       }
 
   pub starts : (z : Sizes) → z .branches ≡ branches ws → length xs - 11 * z .branches ≡ branchAt ws 0

@@ -1,8 +1,9 @@
 -- The balance rows over plain numbers: n buses, k generators, m branches.
-use Prim.Native.Nat.{ℕ, _+_, _*_}
+use Prim.Native.Nat.{ℕ, _+_, _*_, _<_}
+use mathlib.Core.Path.{_≡_}
 use mathlib.Core.Bool.{Bool, true, false, cond}
 use mathlib.Core.List.{List, [], _∷_, _++_}
-use lib.ListN.{getD}
+use lib.ListN.{length, getD}
 use lib.Dec.{eqb}
 use lib.Ieee.{Float, neg, binary64, toBits}
 use Rattle.base.specs.Loop.{each, keep, tally}
@@ -22,6 +23,14 @@ busField to w = cond to (branchTo w) (branchFrom w)
 abbrev pub atBus : List ℕ → Bool → ℕ → ℕ → ℕ → Bool
 atBus ws to first i g = eqb (busField to (getD ws (first + g) 0)) i
 
+-- bus i's terms: demand, shunt, its generators, the branches that start there, those that end there
+abbrev pub termCount : List ℕ → ℕ → ℕ → ℕ → ℕ → ℕ
+termCount ws n k m i = 2 + tally k (atBus ws false (1 + n) i) + tally m (atBus ws false (1 + n + k) i) + tally m (atBus ws true (1 + n + k) i)
+
+-- the list has f i at each of its places i
+abbrev pub Counts : (ℕ → ℕ) → List ℕ → Type 0
+Counts f l = (i : ℕ) → i < length l → getD l i 0 ≡ f i
+
 -- the row's beginning, the sum's own word, demand and shunt
 abbrev pub rowHead : ℕ → ℕ → Float → Float → List Token
 rowHead terms i demand shunt =
@@ -37,9 +46,13 @@ endTokens ws first i n j b =
 
 unfoldable pub balanceTokens : List ℕ → ℕ → ℕ → ℕ → ℕ → Float → Float → ℕ → ℕ → List Token
 balanceTokens ws n k m i demand shunt c j =
-    rowHead (2 + tally k (atBus ws false (1 + n) i) + tally m (atBus ws false (1 + n + k) i) + tally m (atBus ws true (1 + n + k) i)) i demand shunt
+    rowHead (termCount ws n k m i) i demand shunt
     ++ (each k (generatorTokens ws (1 + n) i c) ++ each m (endTokens ws (1 + n + k) i n j))
 
 -- bus i's q balance, else its p balance
 unfoldable pub balanceOf : List ℕ → List Float → Bool → ℕ → List Token
 balanceOf ws xs reactive i = partTokens 11 (cond reactive (qBalance ws xs i .expression) (pBalance ws xs i .expression) ∷ [])
+
+-- all p balances, then all q balances
+unfoldable pub balancesOf : List ℕ → List Float → ℕ → List Token
+balancesOf ws xs n = each n (balanceOf ws xs false) ++ each n (balanceOf ws xs true)

@@ -1,11 +1,13 @@
--- What the writers need of a network that refusals 1 to 10 do not refuse: its sizes, their limits, and lists that are long enough.
-use Prim.Native.Nat.{ℕ, _+_, _≤_}
+-- What the writers need of a network that refusals 1 to 10 do not refuse: its sizes, their limits, lists that are long enough, and bus
+-- numbers below the number of buses.
+use Prim.Native.Nat.{ℕ, _+_, _≤_, _<_}
 use mathlib.Core.Path.{_≡_}
 use mathlib.Core.List.{List}
-use lib.ListN.{length}
+use lib.ListN.{length, getD}
 use lib.Ieee.{Float}
 use Rattle.network.specs.declared.sizes.Sizes.{Sizes}
 use Rattle.network.specs.Network.{buses, generators, branches, references, branchAt}
+use Rattle.network.specs.Word.{generatorBus, branchFrom, branchTo}
 
 pub record Sized (ws : List ℕ) (xs : List Float) (s : Sizes) : Type 0 where
   pub n-is : s .buses ≡ buses ws
@@ -18,3 +20,6 @@ pub record Sized (ws : List ℕ) (xs : List Float) (s : Sizes) : Type 0 where
   pub words : 1 + s .buses + s .generators + s .branches + s .references ≤ length ws
   pub numbers : branchAt ws (s .branches) ≤ length xs
   pub few-numbers : length xs ≤ 18176
+  pub generator-bus : (g : ℕ) → g < s .generators → generatorBus (getD ws (1 + s .buses + g) 0) < s .buses
+  pub from-bus : (b : ℕ) → b < s .branches → branchFrom (getD ws (1 + s .buses + s .generators + b) 0) < s .buses
+  pub to-bus : (b : ℕ) → b < s .branches → branchTo (getD ws (1 + s .buses + s .generators + b) 0) < s .buses

@@ -8,7 +8,6 @@ use crate::word::ROW;
 use crate::word::SHARED;
 use crate::word::SUM;
 use crate::word::model_word;
-use factor::counted;
 use network::Sizes;
 use network::branch_from;
 use network::branch_to;
@@ -16,16 +15,17 @@ use network::generator_bus;
 ghost use mathlib.Core.Path.{_≡_};
 ghost use mathlib.Core.Bool.{true, false};
 ghost use mathlib.Core.List.{_++_};
-ghost use Prim.Native.Nat.{_+_, _<_, _≤_};
+ghost use Prim.Native.Nat.{ℕ, _+_, _<_, _≤_};
 ghost use lib.Ieee.{neg};
-ghost use lib.ListN.{length};
+ghost use lib.ListN.{length, getD};
 ghost use Rattle.base.specs.Loop.{each, keep, tally};
 ghost use Rattle.float.specs.Number.{one64};
 ghost use Rattle.nl.specs.Expr.{column, shared};
+ghost use Rattle.network.specs.Word.{generatorBus, branchFrom, branchTo};
 ghost use Rattle.acopf.specs.Build.{scaled};
 ghost use Rattle.emit.specs.Tokens.{Penned, Room, listTokens};
 ghost use Rattle.emit.specs.Sized.{Sized};
-ghost use Rattle.emit.specs.Balance.{busField, atBus, rowHead, generatorTokens, endTokens, balanceTokens, balanceOf};
+ghost use Rattle.emit.specs.Balance.{Counts, busField, atBus, termCount, rowHead, generatorTokens, endTokens, balanceTokens, balanceOf, balancesOf};
 
 // A generator's bus stands where a branch's from bus does.
 fn bus_field(to: bool, w: u32) -> usize
@@ -37,18 +37,35 @@ fn bus_field(to: bool, w: u32) -> usize
     branch_from(w)
 }
 
-// How many of the words from `first` on have the bus.
-fn count_at(words: &[u32], to: bool, first: usize, bus: usize, count: usize) -> usize
-    requires { ⌜ (first + count ≤ length (now words)) × (count ≤ 512) ⌝ }
-    ensures { λ r. ⌜ (r ≡ tally count (atBus (now (words .entry)) to first bus)) × (r ≤ count) ⌝ }
+// Adds one at the bus of each of the words from `first` on.
+fn count_at(words: &[u32], to: bool, first: usize, count: usize, counts: &mut [usize])
+    requires { ⌜ (first + count ≤ length (now words)) × (count ≤ 512) × (length (now counts) ≡ 256)
+        × ((j : ℕ) → j < count → busField to (getD (now words) (first + j) 0) < length (now counts))
+        × ((i : ℕ) → i < length (now counts) → getD (now counts) i 0 ≤ 2000) ⌝ }
+    ensures { λ _. ⌜ Counts (λ i. getD (now (counts .entry)) i 0 + tally count (atBus (now (words .entry)) to first i)) (now (counts .exit)) ⌝ }
 {
-    let mut found = 0usize;
-    let mut i = 0usize;
-    while i < count {
-        found = counted(found, bus_field(to, words[first + i]) == bus);
-        i += 1;
+    let mut j = 0usize;
+    while j < count {
+        let bus = bus_field(to, words[first + j]);
+        counts[bus] = counts[bus] + 1;
+        j += 1;
     }
-    found
+}
+
+// How many terms each bus's balance has: demand and shunt, which are counted already, then its generators, then from and to ends.
+fn term_counts(words: &[u32], n: usize, k: usize, m: usize, counts: &mut [usize])
+    requires { ⌜ (1 + n + k + m ≤ length (now words)) × (n ≤ 256) × (k ≤ 256) × (m ≤ 512)
+        × ((g : ℕ) → g < k → generatorBus (getD (now words) (1 + n + g) 0) < n)
+        × ((b : ℕ) → b < m → branchFrom (getD (now words) (1 + n + k + b) 0) < n)
+        × ((b : ℕ) → b < m → branchTo (getD (now words) (1 + n + k + b) 0) < n)
+        × (length (now counts) ≡ 256) × Counts (λ i. 2) (now counts) ⌝ }
+    ensures { λ _. ⌜ Counts (termCount (now (words .entry)) n k m) (now (counts .exit)) ⌝ }
+{
+    let generators = 1 + n;
+    let branches = 1 + n + k;
+    count_at(words, false, generators, k, counts);
+    count_at(words, false, branches, m, counts);
+    count_at(words, true, branches, m, counts);
 }
 
 // A generator's column, where it is at the bus.
@@ -210,11 +227,12 @@ fn ends_at(
     next
 }
 
-// The sum's own word says how many terms follow, so they are counted first.
+// The sum's own word says how many terms follow.
 fn balance_row(
     words: &[u32],
     sizes: Sizes,
     bus: usize,
+    terms: usize,
     demand: f64,
     shunt: f64,
     column: usize,
@@ -225,6 +243,7 @@ fn balance_row(
 ) -> Pen
     requires { ⌜ (1 + sizes .buses + sizes .generators + sizes .branches ≤ length (now words)) × (sizes .buses ≤ 256) × (sizes .generators ≤ 256)
         × (sizes .branches ≤ 512) × (bus < sizes .buses) × (column ≤ 1024) × (part ≤ 5)
+        × (terms ≡ termCount (now words) (sizes .buses) (sizes .generators) (sizes .branches) bus)
         × Room (now file) (now constants) pen (balanceTokens (now words) (sizes .buses) (sizes .generators) (sizes .branches) bus demand shunt column part) ⌝ }
     ensures { λ r. ⌜ Penned (now (file .entry)) (now (constants .entry)) pen (balanceTokens (now (words .entry)) (sizes .buses) (sizes .generators) (sizes .branches) bus demand shunt column part)
         (now (file .exit)) (now (constants .exit)) r ⌝ }
@@ -234,10 +253,7 @@ fn balance_row(
     let m = sizes.branches;
     let generators = 1 + n;
     let branches = 1 + n + k;
-    let x = count_at(words, false, generators, bus, k);
-    let y = count_at(words, false, branches, bus, m);
-    let z = count_at(words, true, branches, bus, m);
-    let head = row_head(2 + x + y + z, bus, demand, shunt, file, constants, pen);
+    let head = row_head(terms, bus, demand, shunt, file, constants, pen);
     let next = generators_at(words, generators, bus, column, k, file, constants, head);
     ends_at(words, branches, bus, n, part, m, file, constants, next)
 }
@@ -248,11 +264,13 @@ fn p_balance(
     numbers: &[f64],
     sizes: Sizes,
     bus: usize,
+    terms: usize,
     file: &mut [u32],
     constants: &mut [f64],
     pen: Pen,
 ) -> Pen
     requires { ⌜ Sized (now words) (now numbers) sizes × (bus < sizes .buses)
+        × (terms ≡ termCount (now words) (sizes .buses) (sizes .generators) (sizes .branches) bus)
         × Room (now file) (now constants) pen (balanceOf (now words) (now numbers) false bus) ⌝ }
     ensures { λ r. ⌜ Penned (now (file .entry)) (now (constants .entry)) pen (balanceOf (now (words .entry)) (now (numbers .entry)) false bus)
         (now (file .exit)) (now (constants .exit)) r ⌝ }
@@ -265,6 +283,7 @@ fn p_balance(
         words,
         sizes,
         bus,
+        terms,
         demand,
         shunt,
         pg,
@@ -281,11 +300,13 @@ fn q_balance(
     numbers: &[f64],
     sizes: Sizes,
     bus: usize,
+    terms: usize,
     file: &mut [u32],
     constants: &mut [f64],
     pen: Pen,
 ) -> Pen
     requires { ⌜ Sized (now words) (now numbers) sizes × (bus < sizes .buses)
+        × (terms ≡ termCount (now words) (sizes .buses) (sizes .generators) (sizes .branches) bus)
         × Room (now file) (now constants) pen (balanceOf (now words) (now numbers) true bus) ⌝ }
     ensures { λ r. ⌜ Penned (now (file .entry)) (now (constants .entry)) pen (balanceOf (now (words .entry)) (now (numbers .entry)) true bus)
         (now (file .exit)) (now (constants .exit)) r ⌝ }
@@ -298,6 +319,7 @@ fn q_balance(
         words,
         sizes,
         bus,
+        terms,
         demand,
         shunt,
         qg,
@@ -314,31 +336,35 @@ fn balance(
     numbers: &[f64],
     sizes: Sizes,
     bus: usize,
+    terms: usize,
     file: &mut [u32],
     constants: &mut [f64],
     pen: Pen,
 ) -> Pen
     requires { ⌜ Sized (now words) (now numbers) sizes × (bus < sizes .buses)
+        × (terms ≡ termCount (now words) (sizes .buses) (sizes .generators) (sizes .branches) bus)
         × Room (now file) (now constants) pen (balanceOf (now words) (now numbers) reactive bus) ⌝ }
     ensures { λ r. ⌜ Penned (now (file .entry)) (now (constants .entry)) pen (balanceOf (now (words .entry)) (now (numbers .entry)) reactive bus)
         (now (file .exit)) (now (constants .exit)) r ⌝ }
 {
     if reactive {
-        return q_balance(words, numbers, sizes, bus, file, constants, pen);
+        return q_balance(words, numbers, sizes, bus, terms, file, constants, pen);
     }
-    p_balance(words, numbers, sizes, bus, file, constants, pen)
+    p_balance(words, numbers, sizes, bus, terms, file, constants, pen)
 }
 
-pub(crate) fn balance_rows(
+fn balance_rows(
     reactive: bool,
     words: &[u32],
     numbers: &[f64],
     sizes: Sizes,
+    counts: &[usize],
     file: &mut [u32],
     constants: &mut [f64],
     pen: Pen,
 ) -> Pen
-    requires { ⌜ Sized (now words) (now numbers) sizes
+    requires { ⌜ Sized (now words) (now numbers) sizes × (length (now counts) ≡ 256)
+        × Counts (termCount (now words) (sizes .buses) (sizes .generators) (sizes .branches)) (now counts)
         × Room (now file) (now constants) pen (each (sizes .buses) (balanceOf (now words) (now numbers) reactive)) ⌝ }
     ensures { λ r. ⌜ Penned (now (file .entry)) (now (constants .entry)) pen (each (sizes .buses) (balanceOf (now (words .entry)) (now (numbers .entry)) reactive))
         (now (file .exit)) (now (constants .exit)) r ⌝ }
@@ -347,8 +373,44 @@ pub(crate) fn balance_rows(
     let mut next = pen;
     let mut i = 0usize;
     while i < n {
-        next = balance(reactive, words, numbers, sizes, i, file, constants, next);
+        next = balance(
+            reactive,
+            words,
+            numbers,
+            sizes,
+            i,
+            counts[i],
+            file,
+            constants,
+            next,
+        );
         i += 1;
     }
     next
+}
+
+// The p balances, then the q balances: their terms are the same in number, and counted once.
+pub(crate) fn balances(
+    words: &[u32],
+    numbers: &[f64],
+    sizes: Sizes,
+    file: &mut [u32],
+    constants: &mut [f64],
+    pen: Pen,
+) -> Pen
+    requires { ⌜ Sized (now words) (now numbers) sizes
+        × Room (now file) (now constants) pen (balancesOf (now words) (now numbers) (sizes .buses)) ⌝ }
+    ensures { λ r. ⌜ Penned (now (file .entry)) (now (constants .entry)) pen (balancesOf (now (words .entry)) (now (numbers .entry)) (sizes .buses))
+        (now (file .exit)) (now (constants .exit)) r ⌝ }
+{
+    let mut counts = [2usize; 256];
+    term_counts(
+        words,
+        sizes.buses,
+        sizes.generators,
+        sizes.branches,
+        &mut counts,
+    );
+    let next = balance_rows(false, words, numbers, sizes, &counts, file, constants, pen);
+    balance_rows(true, words, numbers, sizes, &counts, file, constants, next)
 }

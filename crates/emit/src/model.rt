@@ -1,5 +1,5 @@
 // The whole file: shared parts, rows, objective and end.
-use crate::balance::balance_rows;
+use crate::balance::balances;
 use crate::curves::curve_rows;
 use crate::objective::objective_and_end;
 use crate::parts::shared_parts;
@@ -34,10 +34,9 @@ fn bus_rows(
     ensures { λ r. ⌜ Penned (now (file .entry)) (now (constants .entry)) pen (busRows (now (words .entry)) (now (numbers .entry)) sizes)
         (now (file .exit)) (now (constants .exit)) r ⌝ }
 {
-    let p_balances = balance_rows(false, words, numbers, sizes, file, constants, pen);
-    let q_balances = balance_rows(true, words, numbers, sizes, file, constants, p_balances);
+    let next = balances(words, numbers, sizes, file, constants, pen);
     let first = 1 + sizes.buses + sizes.generators + sizes.branches;
-    reference_rows(words, first, sizes.references, file, constants, q_balances)
+    reference_rows(words, first, sizes.references, file, constants, next)
 }
 
 // Active angle differences, thermal limits, curve segments.

@@ -3,7 +3,7 @@ use Rattle.emit.proofs.balance.balance.Statement.{statement}
 use Rattle.emit.proofs.balance.balance.Tie as tie
 
 q-balance-requires : tie.Need-q-balance-requires
-q-balance-requires c κs = (c .before .before .before .before .before .before .before .pre .0, c .before .before .before .before .before .before .before .pre .1, rw (c .before .before .if1 .taken) at (c .before .before .before .before .before .before .before .pre .2))
+q-balance-requires c κs = (c .before .before .before .before .before .before .before .pre .0, c .before .before .before .before .before .before .before .pre .1, c .before .before .before .before .before .before .before .pre .2, rw (c .before .before .if1 .taken) at (c .before .before .before .before .before .before .before .pre .3))
 
 same-length : tie.Need-same-length
 same-length c = search needs
@@ -15,7 +15,7 @@ returns : tie.Need-returns
 returns c = rw (c .before .before .before .before .before .before .before .if1 .taken) (c .before .before .before .before .q-balance .ensures)
 
 p-balance-requires : tie.Need-p-balance-requires
-p-balance-requires c κs = (c .before .before .before .before .before .before .before .pre .0, c .before .before .before .before .before .before .before .pre .1, rw (c .before .before .if1 .left) at (c .before .before .before .before .before .before .before .pre .2))
+p-balance-requires c κs = (c .before .before .before .before .before .before .before .pre .0, c .before .before .before .before .before .before .before .pre .1, c .before .before .before .before .before .before .before .pre .2, rw (c .before .before .if1 .left) at (c .before .before .before .before .before .before .before .pre .3))
 
 same-length-3 : tie.Need-same-length-3
 same-length-3 c = search needs

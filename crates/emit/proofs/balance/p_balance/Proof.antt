@@ -36,7 +36,8 @@ balance-row-requires c κs = let s = c .before .before .before .before .before .
   c .before .before .before .before .before .before .before .before .before .pre .1,
   omega (arith, s .few-buses, s .few-generators),
   omega arith,
-  rw (← p-balance (c .before .before .before .before .before .before .before .before .before .args .words .now) (c .before .before .before .before .before .before .before .before .before .args .numbers .now) (c .before .before .before .before .before .before .before .before .before .args .bus) (s .n-is) (s .k-is) (s .m-is)) (c .before .before .before .before .before .before .before .before .before .pre .2),
+  c .before .before .before .before .before .before .before .before .before .pre .2,
+  rw (← p-balance (c .before .before .before .before .before .before .before .before .before .args .words .now) (c .before .before .before .before .before .before .before .before .before .args .numbers .now) (c .before .before .before .before .before .before .before .before .before .args .bus) (s .n-is) (s .k-is) (s .m-is)) (c .before .before .before .before .before .before .before .before .before .pre .3),
 )
 
 same-length : tie.Need-same-length
