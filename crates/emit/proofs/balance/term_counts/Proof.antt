@@ -1,6 +1,6 @@
 use Prim.Native.Nat.{_+_}
 use native.Mathlib.Omega.{arith}
-use mathlib.Core.Bool.{true, false}
+use mathlib.Core.Bool.{false}
 use Rattle.emit.proofs.Terms.{count-few, counted-terms}
 use Rattle.emit.proofs.balance.term_counts.Statement.{statement}
 use Rattle.emit.proofs.balance.term_counts.Tie as tie
