@@ -13,7 +13,7 @@ SEED = 1998
 TESTS = tests/gate-paths tests/boundary/run tests/depot/run
 
 CASE ?= depot_m
-ARCHIVES = target/staticlib/libnl.a target/staticlib/libvalidate.a target/staticlib/libcompile.a
+LIBRARIES = target/staticlib/libnl.a target/staticlib/libvalidate.a target/staticlib/libcompile.a
 
 run:
 	@rt check depot >&2
@@ -25,7 +25,7 @@ model: case archives
 		< target/$(CASE).bin
 
 solve: case archives
-	@cc -std=c11 -O2 -I include $$(pkg-config --cflags ipopt) examples/ipopt/solve.c $(ARCHIVES) $$(pkg-config --libs ipopt) -lm \
+	@cc -std=c11 -O2 -I include $$(pkg-config --cflags ipopt) examples/ipopt/solve.c $(LIBRARIES) $$(pkg-config --libs ipopt) -lm \
 		-o target/solve
 	@target/solve $(OPTIONS) < target/$(CASE).bin
 

@@ -6,6 +6,8 @@ mod boundary;
 
 use boundary::compile;
 #[allow(unused_imports)]
+pub use boundary::compile::compile_objective as objective_constant;
+#[allow(unused_imports)]
 pub use boundary::nl;
 #[allow(unused_imports)]
 pub use boundary::validate::{validate_check as check, validate_objective as objective, validate_residual as residual};
@@ -27,5 +29,3 @@ pub fn counts(words: &[u32], numbers: &[f64]) -> [usize; 5] {
         compile::compile_shared(words, numbers),
     ]
 }
-
-pub use boundary::compile::compile_objective as objective_constant;
