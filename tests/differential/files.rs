@@ -287,14 +287,7 @@ fn twin(random: &mut Random, a: &File) -> File {
 }
 
 fn main() {
-    let mut words = std::env::args().skip(1);
-    let count: u64 = words
-        .next()
-        .and_then(|n| n.parse().ok())
-        .expect("files N [SEED]");
-    let seed: u64 = words
-        .next()
-        .map_or(1998, |seed| seed.parse().expect("a seed"));
+    let (count, seed) = random::count_and_seed("files N [SEED]");
     let mut random = Random::new(seed);
     let random = &mut random;
     let mut tally: BTreeMap<String, u64> = BTreeMap::new();

@@ -27,14 +27,7 @@ use std::fmt::Write as _;
 const SHOWN: usize = 10;
 
 fn main() {
-    let mut words = std::env::args().skip(1);
-    let count: u64 = words
-        .next()
-        .and_then(|n| n.parse().ok())
-        .expect("differential N [SEED]");
-    let seed: u64 = words
-        .next()
-        .map_or(1998, |seed| seed.parse().expect("a seed"));
+    let (count, seed) = random::count_and_seed("differential N [SEED]");
     // The text is not expected to panic; where it does, the message is not wanted.
     std::panic::set_hook(Box::new(|_| {}));
     let mut tally = Tally::default();

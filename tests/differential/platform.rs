@@ -53,14 +53,7 @@ fn differences(case: &Case) -> Vec<&'static str> {
 }
 
 fn main() {
-    let mut words = std::env::args().skip(1);
-    let count: u64 = words
-        .next()
-        .and_then(|n| n.parse().ok())
-        .expect("platform N [SEED]");
-    let seed: u64 = words
-        .next()
-        .map_or(1998, |seed| seed.parse().expect("a seed"));
+    let (count, seed) = random::count_and_seed("platform N [SEED]");
     let mut tally: BTreeMap<&'static str, (u64, usize, u64)> = BTreeMap::new();
     for number in 0..count {
         let case = cases::case(seed, number);

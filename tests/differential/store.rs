@@ -400,9 +400,7 @@ fn choose(what: &str, all: &[&BTreeSet<String>], most: usize) -> Vec<usize> {
 fn main() {
     let mut words = std::env::args().skip(1);
     let path = words.next().expect("store FILE [SEED]");
-    let seed: u64 = words
-        .next()
-        .map_or(1998, |seed| seed.parse().expect("a seed"));
+    let seed = random::seed(words.next());
     let mut all: Vec<Stored> = (0..CANDIDATES)
         .filter_map(|number| stored(cases::case(seed, number), number))
         .collect();
