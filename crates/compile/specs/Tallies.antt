@@ -1,5 +1,5 @@
 -- What the counts of compile's answer are sums of. That they are is a law of proofs/Needed.
-use Prim.Native.Nat.{ℕ, _*_, _≤_}
+use Prim.Native.Nat.{ℕ, _≤_}
 use mathlib.Core.Path.{_≡_}
 use mathlib.Core.List.{List}
 use lib.Ieee.{Float}

@@ -9,7 +9,6 @@ use network::sizes_of;
 use rows::write_row_lower;
 use rows::write_row_upper;
 ghost use mathlib.Core.Path.{_≡_};
-ghost use mathlib.Core.List.{_++_};
 ghost use Rattle.compile.specs.Compile.{compiled};
 ghost use Rattle.compile.specs.Lists.{lists, lent, Held};
 

@@ -1,5 +1,4 @@
 use native.Mathlib.Omega.{arith}
-use mathlib.Core.Path.{sym, _∙_}
 use borrow.Author.Needs.{needs}
 use Rattle.compile.proofs.Needed.{bounds, accepted-is}
 use Rattle.compile.proofs.decide.accepted.Statement.{statement}

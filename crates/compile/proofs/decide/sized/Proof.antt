@@ -1,4 +1,3 @@
-use mathlib.Core.Path.{refl, sym, ap, _∙_}
 use Rattle.compile.proofs.Answer.{sized-refused, sized-accepted, tables-clear}
 use borrow.Author.Needs.{needs}
 use Rattle.compile.proofs.decide.sized.Statement.{statement}

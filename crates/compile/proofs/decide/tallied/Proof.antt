@@ -1,5 +1,4 @@
 use native.Mathlib.Omega.{arith}
-use borrow.Author.Needs.{needs}
 use Rattle.compile.proofs.Needed.{bounds, tallied-is}
 use Rattle.compile.proofs.decide.tallied.Statement.{statement}
 use Rattle.compile.proofs.decide.tallied.Tie as tie

@@ -1,4 +1,3 @@
-use mathlib.Core.Path.{_≡_}
 use Rattle.acopf.specs.Columns.{columnLower, columnUpper, columnStart}
 use Rattle.acopf.specs.Factor.{constants64}
 use Rattle.acopf.specs.Model.{fileWords}

@@ -1,9 +1,5 @@
 use borrow.Author.Needs.{needs}
-use mathlib.Core.Path.{_≡_, refl, sym, ap, _∙_}
-use Prim.Native.Nat.{ℕ, _+_, _≤_, _<_}
 use native.Mathlib.Omega.{arith}
-use lib.ListN.{length}
-use Rattle.network.specs.Network.{buses, generators, branches, from, to}
 use Rattle.residuals.proofs.Room.{derived-are}
 use Rattle.residuals.proofs.eight.residuals_at.Statement.{statement}
 use Rattle.residuals.proofs.eight.residuals_at.Tie as tie

@@ -1,4 +1,3 @@
-use native.Mathlib.Omega.{arith}
 use borrow.Author.Needs.{needs}
 use Rattle.rows.proofs.bounds.margin_count.Statement.{statement}
 use Rattle.rows.proofs.bounds.margin_count.Tie as tie

@@ -4,7 +4,6 @@ use lib.ListN.{length-replicate}
 use Rattle.float.specs.Number.{zero64}
 use Rattle.rows.proofs.Sides.{length-angles}
 use Rattle.rows.proofs.Steps.{sized, bounds-done}
-use borrow.Author.Needs.{needs}
 use Rattle.rows.proofs.bounds.write_bounds.Statement.{statement}
 use Rattle.rows.proofs.bounds.write_bounds.Tie as tie
 
