@@ -52,7 +52,7 @@ turn-number a b s x y h f t =
     let r = cond-number a (s ⊖ x) s (less-finite s x h f) h in
     cond-number b (cond a (s ⊖ x) s ⊖ y) (cond a (s ⊖ x) s) (less-finite (cond a (s ⊖ x) s) y r t) r
 
-withdrawn-number : (ws : List ℕ) (i : ℕ) (atFrom atTo : ℕ → Float) (start : Float) → isFinite start ≡ true
+pub withdrawn-number : (ws : List ℕ) (i : ℕ) (atFrom atTo : ℕ → Float) (start : Float) → isFinite start ≡ true
     → ((b : ℕ) → b < branches ws → isFinite (atFrom b) ≡ true) → ((b : ℕ) → b < branches ws → isFinite (atTo b) ≡ true) → Number (withdrawn ws i atFrom atTo start)
 unfolding withdrawn
 withdrawn-number ws i atFrom atTo start h f t =

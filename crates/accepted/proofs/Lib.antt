@@ -2,3 +2,6 @@ pub mod Largest
 pub mod Accepts
 pub mod Floats
 pub mod Kept
+pub mod Obeyed
+pub mod MaxViolation
+pub mod Overflow

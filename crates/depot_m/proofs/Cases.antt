@@ -190,6 +190,8 @@ cases =
     ∷ answers M xs (d 0 1 ∷ d 1 1 ∷ d 1 1 ∷ d 1 4 ∷ []) (inf false) 15 2 (d 0 1) none
     ∷ compileRefuses M (numbers (d 2 1) (d 1 1) (d 0 1) (d 1 1)) 7 2
     ∷ answers (0x10000001 ∷ 0x20000001 ∷ 0x30000000 ∷ 0x50000000 ∷ []) (numbers (d 2 1) (d 1 1) (d 0 1) (d 1 1)) (d 0 1 ∷ d 1 1 ∷ d 1 1 ∷ d 1 4 ∷ []) (d 8 1) 0 0 (d 8 1) none
+    ∷ answers M (numbers (d 2 1) (d 1 1) (d 0 1) (d 1 1)) (d 0 1 ∷ d 1 1 ∷ d 1 1 ∷ d 1 4 ∷ []) (d 8 1) 7 2 (d 0 1) none
+    ∷ compiles (0x10000001 ∷ 0x20000001 ∷ 0x30000000 ∷ 0x50000000 ∷ []) (numbers (d 2 1) (d 1 1) (d 0 1) (d 1 1)) file (neg (d 1 1) ∷ neg (d 0 1) ∷ neg (d 1 4) ∷ d 0 1 ∷ d 1 1 ∷ d 3 1 ∷ []) (d 4 1)
     ∷ starts M (numbers (d 0 1) (d 2 1) (d 7 1) (d 5 4)) (d 7 1 ∷ d 11 10 ∷ d 1 1 ∷ d 1 4 ∷ [])
     ∷ finds file 6 4 2 0 0 (0x10000000 ∷ [])
     ∷ finds file 6 4 3 18 3 []

@@ -9,6 +9,7 @@ ghost use mathlib.Core.Bool.{cond};
 ghost use lib.Dec.{eqb, ltb};
 ghost use lib.Ieee.{eq};
 ghost use lib.ListN.{length};
+ghost use Prim.Native.Nat.{_+_, _*_};
 ghost use Rattle.base.specs.Fault.{packed};
 ghost use Rattle.nl.specs.Reader.{wordOk, arity, readHead, readExpr, isMark, readParts, readLast, readEnd};
 ghost use Rattle.nl.specs.Finder.{found, namedBy, findAfter, find, findRow, rowStart, rowLength, rowWords};
@@ -366,9 +367,11 @@ pub fn find_row(words: &[u32], constants: usize, columns: usize, r: usize) -> Fa
     }
 }
 
-// The words of row r's expression, where they stand; none where it is refused.
+// The words of row r's expression, where they stand; none where it is refused. The slice is the part of the lent words that starts at word `rowStart`:
+// the same memory, 4 bytes a word further on.
 pub fn row(words: &[u32], constants: usize, columns: usize, r: usize) -> &[u32]
-    ensures { λ s. ⌜ now s ≡ rowWords (now (words .entry)) constants columns r ⌝ }
+    ensures { λ s. ⌜ (now s ≡ rowWords (now (words .entry)) constants columns r) × (s .ptr .0 ≡ words .entry .ptr .0)
+        × (s .ptr .1 ≡ rowStart (now (words .entry)) constants columns r * 4 + words .entry .ptr .1) ⌝ }
 {
     let f = find(words, constants, columns, r);
     let a = f.start;

@@ -1,9 +1,9 @@
 -- `nl::row` meets its contract: the part lies inside the words.
-use mathlib.Core.Path.{ap}
-use Prim.Native.Nat.{_-_}
+use mathlib.Core.Path.{ap, refl}
+use Prim.Native.Nat.{_-_, _+_, _*_}
 use native.Mathlib.Omega.{arith}
 use lib.ListN.{take, drop}
-use Rattle.nl.specs.Finder.{rowWords}
+use Rattle.nl.specs.Finder.{rowWords, rowStart}
 use Rattle.nl.proofs.Finds.{inside-words}
 use borrow.Author.Needs.{needs}
 use Rattle.nl.proofs.row.Statement.{statement}
@@ -25,8 +25,12 @@ part-result-end : tie.Need-part-result-end
 part-result-end c = let h = inside-words _ _ _ _ _ (c .find .ensures) in omega arith
 
 returns : tie.Need-returns
-unfolding rowWords
-returns c = ap (λ f. take (f .end - f .start) (drop (f .start) (c .before .before .before .args .words .now))) (c .before .find .ensures)
+unfolding rowWords rowStart
+returns c = (
+  ap (λ f. take (f .end - f .start) (drop (f .start) (c .before .before .before .args .words .now))) (c .before .find .ensures),
+  refl,
+  ap (λ f. f .start * 4 + c .before .before .before .args .words .ptr .1) (c .before .find .ensures),
+)
 
 pub row-spec : {M : Type 1} → statement M
 row-spec =

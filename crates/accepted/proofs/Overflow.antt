@@ -1,0 +1,104 @@
+-- Document 01's mistake to rule out, "refusing a balance that overflows with 15 instead of 16": the answer then is 16.
+use mathlib.Core.Path.{_≡_, refl, ap, sym, _∙_}
+use mathlib.Core.List.{List}
+use mathlib.Core.Bool.{Bool, true, false, not, true≢false}
+use mathlib.Core.Logic.{_⊎_, inl, inr}
+use Prim.Native.Nat.{ℕ, zero, suc, _+_, _≤_, _<_}
+use native.Mathlib.Omega.{arith}
+use lib.ListN.{length, getD}
+use lib.Dec.{eqb, leb}
+use lib.Ieee.{Float, nan, inf, fin, lt, isNan, ofBits}
+use borrow.Author.Tests.{le-leb, leb-true, leb-false, eq-eqb, not-true}
+use Rattle.base.proofs.Firsts.{Clear, or-go, or-clear, unless-clear, unless-true, all-clear, first-clear, first-fails}
+use Rattle.base.proofs.Loops.{Block}
+use Rattle.base.specs.Fault.{clear, fault, unless}
+use Rattle.base.specs.declared.Fault.{Fault}
+use Rattle.float.specs.Number.{isFinite, absolute}
+use Rattle.float.proofs.Really.{Number}
+use Rattle.network.specs.Network.{buses, branches, columns}
+use Rattle.acopf.specs.Factor.{firstNonFinite, networkFault}
+use Rattle.acopf.proofs.Finite.{non-finite-clear}
+use Rattle.derived.specs.Outputs.{pInjection, qInjection, flows, pFrom, qFrom, pTo, qTo, outputs}
+use Rattle.derived.proofs.Outputs.{outputs-at}
+use Rattle.residuals.specs.Residuals.{pBalance, qBalance, activeBalance, reactiveBalance, residuals}
+use Rattle.validate.specs.Check.{tiny64, tolerances, solved, faultOutput, faultPoint, faultSwing, faultDerived, faultResidual, faultOf, checkFault}
+use Rattle.accepted.specs.Accepted.{Sound, Within}
+use Rattle.accepted.proofs.Accepts.{derived-exactly, zero-within}
+use Rattle.accepted.proofs.Largest.{largest-law}
+use Rattle.accepted.proofs.Kept.{withdrawn-number}
+
+-- a number that is not finite is an infinity, and its absolute value is above the tolerance
+above-tiny : (v : Float) → Number v → isFinite v ≡ false → Within (absolute v) → ⊥
+unfolding isFinite absolute isNan lt ofBits
+above-tiny nan n f w = true≢false n
+above-tiny (inf s) n f w = true≢false w
+above-tiny (fin s m e) n f w = true≢false f
+
+module _ (ws : List ℕ) (xs x : List Float) (solver : Float) (lent : ℕ) (S : Sound ws xs x solver lent) where
+  residual-alone : checkFault ws xs x solver lent ≡ faultResidual ws xs x solver (solved ws xs x solver)
+  unfolding checkFault faultOf faultOutput faultPoint faultSwing
+  residual-alone =
+      or-go _ _ (ap (λ f. f .number) (S .network))
+      ∙ or-go _ _ (test _ _ (le-leb _ _ (S .room)))
+      ∙ or-go _ _ (or-clear (unless (eqb (length x) (columns ws)) (fault 13 (columns ws))) (firstNonFinite 13 x) (test _ _ (eq-eqb _ _ (S .columns-given))) (non-finite-clear 13 x (omega arith) .1 (S .point-finite)))
+      ∙ or-go _ _ (all-clear (buses ws) _ (λ i l. test _ _ (S .angles i l)))
+      ∙ or-go _ _ (derived-exactly ws xs x solver .1 (S .outputs-finite, S .solver-finite, S .own-finite))
+    where
+      test : (b : Bool) (f : Fault) → b ≡ true → Clear (unless b f)
+      test b f h = ap (λ y. y .number) (unless-clear b f h)
+
+  block-finite : {k n : ℕ} {f : ℕ → Float} → Block (outputs ws xs x (flows ws xs x)) k n f → (j : ℕ) → j < n → isFinite (f j) ≡ true
+  block-finite {k} B j l = ap isFinite (sym (B .its j nan l)) ∙ S .outputs-finite (k + j) (omega (arith, B .fits))
+
+  -- residual j + 1, counted from 1, above its tolerance: 16, its place at most j + 1
+  above-16 : (j : ℕ) → j < 8 → (lt (getD tolerances j nan) (getD (residuals ws xs x (flows ws xs x) solver) j nan) ≡ false → ⊥)
+      → (k : ℕ) × (k ≤ j) × (checkFault ws xs x solver lent ≡ fault 16 (k + 1))
+  unfolding faultResidual solved
+  above-16 j l above =
+      let t : ℕ → Bool = λ i. not (lt (getD tolerances i nan) (getD (residuals ws xs x (flows ws xs x) solver) i nan)) in
+      let z : t j ≡ true → ⊥ = λ e. above (not-true _ e) in
+      let f = first-fails 8 t 16 (λ i. i + 1) (omega arith) (λ c. z (unless-true _ 16 (j + 1) (omega arith) (first-clear 8 _ c j l))) in
+      (f .which, at-most (f .which) (λ q. z (f .before j q)), residual-alone ∙ f .answer)
+    where
+      at-most : (k : ℕ) → (j < k → ⊥) → k ≤ j
+      at-most k g = go (leb k j) refl
+        where
+          go : (b : Bool) → leb k j ≡ b → k ≤ j
+          go true e = leb-true k j e
+          go false e = absurd (g (omega (arith, leb-false k j e)))
+
+  -- a residual of balances is above its tolerance where one of them is not finite
+  active-above : (i : ℕ) → i < buses ws → isFinite (pBalance ws xs x (flows ws xs x) i) ≡ false → lt tiny64 (activeBalance ws xs x (flows ws xs x)) ≡ false → ⊥
+  unfolding activeBalance pBalance
+  active-above i l h w =
+      let P = outputs-at ws xs x (flows ws xs x) in
+      let n = withdrawn-number ws i (pFrom (flows ws xs x)) (pTo (flows ws xs x)) (pInjection ws xs x i) (block-finite (P .p-injections) i l) (block-finite (P .p-from)) (block-finite (P .p-to)) in
+      above-tiny (pBalance ws xs x (flows ws xs x) i) n h (largest-law tiny64 zero-within (buses ws) _ .0 w i l)
+
+  reactive-above : (i : ℕ) → i < buses ws → isFinite (qBalance ws xs x (flows ws xs x) i) ≡ false → lt tiny64 (reactiveBalance ws xs x (flows ws xs x)) ≡ false → ⊥
+  unfolding reactiveBalance qBalance
+  reactive-above i l h w =
+      let P = outputs-at ws xs x (flows ws xs x) in
+      let n = withdrawn-number ws i (qFrom (flows ws xs x)) (qTo (flows ws xs x)) (qInjection ws xs x i) (block-finite (P .q-injections) i l) (block-finite (P .q-from)) (block-finite (P .q-to)) in
+      above-tiny (qBalance ws xs x (flows ws xs x) i) n h (largest-law tiny64 zero-within (buses ws) _ .0 w i l)
+
+  -- at a point that 1 to 15 do not refuse, an active balance that is not finite gives 16, place 1
+  pub active-overflow-16 : (i : ℕ) → i < buses ws → isFinite (pBalance ws xs x (flows ws xs x) i) ≡ false → checkFault ws xs x solver lent ≡ fault 16 1
+  unfolding residuals tolerances
+  active-overflow-16 i l h =
+      let (k, m, e) = above-16 0 (omega arith) (active-above i l h) in
+      e ∙ ap (λ j. fault 16 (j + 1)) (none k m)
+    where
+      none : (k : ℕ) → k ≤ 0 → k ≡ 0
+      none k m = omega arith
+
+  -- and a reactive balance 16, place 1 (where an active balance is off too) or 2
+  pub reactive-overflow-16 : (i : ℕ) → i < buses ws → isFinite (qBalance ws xs x (flows ws xs x) i) ≡ false
+      → (checkFault ws xs x solver lent ≡ fault 16 1) ⊎ (checkFault ws xs x solver lent ≡ fault 16 2)
+  unfolding residuals tolerances
+  reactive-overflow-16 i l h = let (k, m, e) = above-16 1 (omega arith) (reactive-above i l h) in one-or-two k m e
+    where
+      one-or-two : (k : ℕ) → k ≤ 1 → checkFault ws xs x solver lent ≡ fault 16 (k + 1) → (checkFault ws xs x solver lent ≡ fault 16 1) ⊎ (checkFault ws xs x solver lent ≡ fault 16 2)
+      one-or-two zero m e = inl e
+      one-or-two (suc zero) m e = inr e
+      one-or-two (suc (suc k)) m e = absurd (omega arith)
