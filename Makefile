@@ -2,10 +2,11 @@
 # make model: shows the model file of the same CASE as text (host/examples/model.rs), of any size; needs cargo.
 # make solve: solves the CASE with Ipopt and checks the point (examples/ipopt, docs/SOLVER.md); OPTIONS are Ipopt's, NAME=VALUE.
 # make test: the gate. make fmt: lays out every Rattle file.
+# make listing: public contracts, the definitions that they cite and the theorems of docs/PROOF.md, one sorted text for diff.
 # make replay: the stored answers of the original Rust, held to the definitions (some minutes; not in the gate).
 # make differential, files, platform, bench: the original Rust beside the port; they need what tests/oracle/README.md names. N: how many
 # cases; SEED. make answers: writes the answers of crates/oracle_answers anew.
-.PHONY: run model solve case archives test fmt replay differential files platform answers bench
+.PHONY: run listing model solve case archives test fmt replay differential files platform answers bench
 N = 10000
 SEED = 1998
 
@@ -41,6 +42,9 @@ test:
 
 fmt:
 	@rt fmt
+
+listing:
+	@tests/listing
 
 replay:
 	@tests/oracle/replay
