@@ -1,6 +1,6 @@
 -- Refusals 1 and 2 leave words whose layout is right, and 3 a list of numbers that fits it; a cursor's step; the records.
 use mathlib.Core.Path.{_≡_, refl, sym, ap, _∙_}
-use mathlib.Core.Bool.{Bool, not, _&&_}
+use mathlib.Core.Bool.{Bool, true, false, cond, not, _&&_}
 use mathlib.Core.List.{List}
 use Prim.Native.Nat.{ℕ, _+_, _*_, _<_, _≤_}
 use native.Mathlib.Omega.{arith}
@@ -8,16 +8,19 @@ use lib.Dec.{eqb}
 use lib.ListN.{length, getD}
 use lib.Ieee.{Float}
 use Rattle.base.proofs.Firsts.{Clear, or-left, or-right}
+use Rattle.base.specs.Fault.{orElse}
+use Rattle.base.specs.declared.Fault.{Fault}
 use Rattle.float.specs.Number.{Doubles}
-use Rattle.network.specs.Fault.{faultWords, faultSize, faultCount, faultTables}
+use Rattle.network.specs.Fault.{faultWords, faultSize, faultCount, faultBlank, faultCurve, faultShift, faultBounds, faultBranches, faultTables, wordsFault, formFault}
 use Rattle.network.specs.Limits.{generatorNumbers, pointNumbers, branchNumbers, mostPoints, mostNumbers}
 use Rattle.network.specs.Network.{generators, generatorPlace, branchPlace, points, branchAt, needed}
 use Rattle.network.specs.Word.{generatorBus, generatorBounded, generatorPoints, branchFrom, branchTo, branchAngled, branchLimited}
 use Rattle.network.specs.declared.layout.Layout.{Layout}
+use Rattle.network.specs.declared.formed.Form.{Form}
 use Rattle.network.specs.declared.records.Generator.{Generator}
 use Rattle.network.specs.declared.records.Branch.{Branch}
 use Rattle.network.specs.declared.layout.Cursor.{Cursor}
-use Rattle.network.specs.Layout.{layoutOf, generatorAtPlace, branchAtPlace, generatorRecord, branchRecord, LaidWords, Laid, Standing, GeneratorRead, BranchRead}
+use Rattle.network.specs.Layout.{layoutOf, generatorAtPlace, branchAtPlace, generatorRecord, branchRecord, LaidWords, Laid, Standing, GeneratorRead, BranchRead, Formed}
 use Rattle.network.proofs.Places.{words-length, bus-of-generator, no-single-point, from-bus, to-bus, referred-bus, limits}
 use Rattle.network.proofs.Good.{Good, good-shape, good, generator-zero, generator-next, generator-start, generator-high, generator-fits}
 
@@ -72,12 +75,52 @@ module _ (ws : List ℕ) (xs : List Float) where
   unfolding faultTables
   laid h D e = rw e (laid-good (laid-words-of ws (or-left _ _ h) (or-left _ _ (or-right _ _ h))) (good ws xs h) D)
 
+-- ---- the answers of the checks
+
+or-assoc : (f g h : Fault) → orElse (orElse f g) h ≡ orElse f (orElse g h)
+unfolding orElse
+or-assoc f g h = go (eqb (f .number) 0) refl
+  where
+    go : (t : Bool) → eqb (f .number) 0 ≡ t → cond (eqb (cond t g f .number) 0) h (cond t g f) ≡ cond t (cond (eqb (g .number) 0) h g) f
+    go true e = refl
+    go false e = rw e
+
+pub tables-form : (ws : List ℕ) (xs : List Float) → faultTables ws xs
+    ≡ orElse (formFault ws (length xs)) (orElse (faultBlank ws xs) (orElse (faultCurve ws xs) (orElse (faultShift ws xs) (orElse (faultBounds ws xs) (faultBranches ws xs)))))
+unfolding faultTables formFault wordsFault faultCount
+tables-form ws xs = sym (or-assoc _ _ _ ∙ or-assoc _ _ _)
+
+module _ {ws : List ℕ} where
+  pub formed-stop : {f g : Fault} {r : Form} → r .fault ≡ g → g ≡ f → (Clear g → ⊥) → Formed ws f r
+  formed-stop e q n = record { fault = e ∙ q; layout = λ h. absurd (n (ap (λ z. z .number) q ∙ h)) }
+
+  pub formed-clear : {f : Fault} {r : Form} → Formed ws f r → Clear (r .fault) → Clear f
+  formed-clear F h = ap (λ z. z .number) (sym (F .fault)) ∙ h
+
+  pub formed-words : {r : Form} → Formed ws (wordsFault ws) r → Clear (r .fault) → LaidWords ws (r .layout)
+  unfolding wordsFault
+  formed-words F h = let k = formed-clear F h in laid-words ws (or-left _ _ k) (or-right _ _ k) (F .layout k)
+
+  pub formed-form : {xs : List Float} {r : Form} → Formed ws (formFault ws (length xs)) r → Doubles xs → Clear (r .fault) → Laid ws xs (r .layout)
+  unfolding formFault wordsFault faultCount
+  formed-form {xs} F D h =
+      let k = formed-clear F h in
+      let w = or-left _ _ k in
+      laid-form ws xs (or-left _ _ w) (or-right _ _ w) (or-right _ _ k) D (F .layout k)
+
+  pub formed-tables : {xs : List Float} {r : Form} → Formed ws (faultTables ws xs) r → Doubles xs → Clear (r .fault) → Laid ws xs (r .layout)
+  formed-tables {xs} F D h = let k = formed-clear F h in laid ws xs k D (F .layout k)
+
 -- ---- places, in the code's terms
 
 module _ {ws : List ℕ} {l : Layout} (L : LaidWords ws l) where
   pub branch-start : (b : ℕ) → l .«branch_numbers» + branchNumbers * b ≡ branchAt ws b
   unfolding branchAt
   branch-start b = rw (L .is)
+
+  pub needed-is : l .«branch_numbers» + branchNumbers * l .branches ≡ needed ws
+  unfolding needed branchAt
+  needed-is = rw (L .is)
 
   pub first-standing : {c : Cursor} → c .index ≡ 0 → c .at ≡ l .«generator_numbers» → Standing ws l c
   first-standing e a = record { within = omega arith; at = a ∙ rw (L .is, e) (sym (generator-zero ws)) }

@@ -36,6 +36,17 @@ module _ (ws : List ℕ) where
       (orElse (unless (leb (references ws) mostReferences) (fault 2 (referencePlace ws mostReferences)))
       (first (generators ws) (λ g. unless (leb (points ws g) mostPoints) (fault 2 (generatorPlace ws g))))))))
 
+  -- 3 count: the needed length, of a list of `count` numbers
+  abbrev pub countFault : ℕ → Fault
+  countFault count = unless (eqb count (needed ws)) (fault 3 (needed ws))
+
+  -- "1, 2" from the words alone, and "1 to 3" from the words and the number of numbers
+  unfoldable pub wordsFault : Fault
+  wordsFault = orElse faultWords faultSize
+
+  unfoldable pub formFault : ℕ → Fault
+  formFault count = orElse wordsFault (countFault count)
+
 -- 4 blank: `count` numbers from `at` on are required
 unfoldable pub blanks : List Float → ℕ → ℕ → Fault
 blanks xs at count = first count (λ j. unless (isFinite (number xs (at + j))) (fault 4 (at + j)))
@@ -43,7 +54,7 @@ blanks xs at count = first count (λ j. unless (isFinite (number xs (at + j))) (
 module _ (ws : List ℕ) (xs : List Float) where
   -- 3 count: the needed length
   unfoldable pub faultCount : Fault
-  faultCount = unless (eqb (length xs) (needed ws)) (fault 3 (needed ws))
+  faultCount = countFault ws (length xs)
 
   -- 4 blank: p_d to b_s of a bus; q, c, c0 and the curve of a generator; g to shift of a branch
   unfoldable pub faultBlank : Fault

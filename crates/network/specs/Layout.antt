@@ -7,7 +7,9 @@ use mathlib.Core.List.{List}
 use lib.ListN.{length}
 use lib.Ieee.{Float, lt}
 use Rattle.float.specs.Number.{zero64, Doubles}
+use Rattle.base.specs.declared.Fault.{Fault}
 use Rattle.network.specs.declared.layout.Layout.{Layout}
+use Rattle.network.specs.declared.formed.Form.{Form}
 use Rattle.network.specs.declared.records.Bus.{Bus}
 use Rattle.network.specs.declared.records.Generator.{Generator}
 use Rattle.network.specs.declared.records.Branch.{Branch}
@@ -148,3 +150,8 @@ pub record BranchRead (ws : List ℕ) (xs : List Float) (l : Layout) (b : ℕ) (
   pub is : r ≡ branchRecord ws xs b
   pub from : r .from < l .buses
   pub to : r .to < l .buses
+
+-- the answer of a check whose fault is f, and the layout for those who go on where it is clear
+pub record Formed (ws : List ℕ) (f : Fault) (r : Form) : Type 0 where
+  pub fault : r .fault ≡ f
+  pub layout : f .number ≡ 0 → r .layout ≡ layoutOf ws

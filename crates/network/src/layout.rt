@@ -5,8 +5,8 @@ use crate::word::generator_points;
 use crate::word::header_costs;
 ghost use mathlib.Core.Path.{_≡_};
 ghost use Prim.Native.Nat.{_+_, _*_, _<_, _≤_};
-ghost use Rattle.network.specs.Limits.{generatorNumbers, pointNumbers, mostBuses, mostGenerators, mostBranches, mostPoints, mostNumbers};
-ghost use Rattle.network.specs.Network.{buses, generators, generatorAt, branchAt};
+ghost use Rattle.network.specs.Limits.{generatorNumbers, pointNumbers, mostBuses, mostGenerators, mostBranches, mostNumbers};
+ghost use Rattle.network.specs.Network.{buses, generators, branches, references, busAt, generatorAt, branchAt, needed};
 ghost use Rattle.network.specs.Fault.{faultWords, faultSize};
 ghost use Rattle.network.specs.Layout.{layoutFrom, layoutOf, LaidWords, Standing};
 
@@ -95,14 +95,38 @@ fn layout_from(sizes: Sizes, branch_numbers: usize, costs: bool) -> Layout
     }
 }
 
+// Of words that refusals 1 and 2 do not refuse, with their sizes at hand.
+pub(crate) fn layout_with(words: &[u32], sizes: Sizes) -> Layout
+    requires { ⌜ (sizes .buses ≡ buses (now words)) × (sizes .generators ≡ generators (now words)) × (sizes .branches ≡ branches (now words))
+        × (sizes .references ≡ references (now words)) × (faultWords (now words) .number ≡ 0) × (faultSize (now words) .number ≡ 0) ⌝ }
+    ensures { λ r. ⌜ r ≡ layoutOf (now (words .entry)) ⌝ }
+{
+    let end = generators_end(words, sizes.buses, sizes.generators);
+    layout_from(sizes, end, header_costs(words[0]))
+}
+
 // Of words that refusals 1 and 2 do not refuse.
 pub fn layout_of(words: &[u32]) -> Layout
     requires { ⌜ (faultWords (now words) .number ≡ 0) × (faultSize (now words) .number ≡ 0) ⌝ }
     ensures { λ r. ⌜ r ≡ layoutOf (now (words .entry)) ⌝ }
 {
-    let sizes = sizes_of(words);
-    let end = generators_end(words, sizes.buses, sizes.generators);
-    layout_from(sizes, end, header_costs(words[0]))
+    layout_with(words, sizes_of(words))
+}
+
+// How many numbers the words ask for.
+pub fn numbers_needed(words: &[u32], layout: Layout) -> usize
+    requires { ⌜ LaidWords (now words) layout ⌝ }
+    ensures { λ r. ⌜ r ≡ needed (now (words .entry)) ⌝ }
+{
+    layout.branch_numbers + BRANCH_NUMBERS * layout.branches
+}
+
+// The place of bus i's first number.
+pub fn bus_start(words: &[u32], layout: Layout, i: usize) -> usize
+    requires { ⌜ (LaidWords (now words) layout) × (i < layout .buses) ⌝ }
+    ensures { λ r. ⌜ r ≡ busAt (now (words .entry)) i ⌝ }
+{
+    BUS_NUMBERS * i
 }
 
 // The first generator, if there is one.

@@ -1,11 +1,11 @@
 // Refusals 2, size, and 3, count: the limits, and the needed length of the number list.
-use crate::layout::BRANCH_NUMBERS;
+use crate::layout::Layout;
 use crate::layout::MOST_BRANCHES;
 use crate::layout::MOST_BUSES;
 use crate::layout::MOST_GENERATORS;
 use crate::layout::MOST_POINTS;
 use crate::layout::MOST_REFERENCES;
-use crate::layout::generators_end;
+use crate::layout::numbers_needed;
 use crate::word::generator_points;
 use base::Fault;
 ghost use mathlib.Core.Path.{_≡_};
@@ -15,7 +15,8 @@ ghost use lib.ListN.{length};
 ghost use Rattle.base.specs.Fault.{fault, unless, first};
 ghost use Rattle.network.specs.Limits.{mostPoints};
 ghost use Rattle.network.specs.Network.{buses, generators, branches, references, generatorPlace, points};
-ghost use Rattle.network.specs.Fault.{faultWords, faultSize, faultCount};
+ghost use Rattle.network.specs.Fault.{faultWords, faultSize, countFault};
+ghost use Rattle.network.specs.Layout.{LaidWords};
 
 // The first of k generators whose curve has more than 16 points.
 fn points_fault(words: &[u32], n: usize, k: usize) -> Fault
@@ -76,12 +77,13 @@ pub(crate) fn size_fault(words: &[u32], n: usize, k: usize, m: usize, r: usize) 
     points_fault(words, n, k)
 }
 
-pub(crate) fn count_fault(words: &[u32], numbers: &[f64], n: usize, k: usize, m: usize) -> Fault
-    requires { ⌜ (n ≡ buses (now words)) × (k ≡ generators (now words)) × (m ≡ branches (now words)) × (faultWords (now words) .number ≡ 0) × (faultSize (now words) .number ≡ 0) ⌝ }
-    ensures { λ r. ⌜ r ≡ faultCount (now (words .entry)) (now (numbers .entry)) ⌝ }
+// `count` is the length of the number list.
+pub(crate) fn count_fault(words: &[u32], layout: Layout, count: usize) -> Fault
+    requires { ⌜ LaidWords (now words) layout ⌝ }
+    ensures { λ r. ⌜ r ≡ countFault (now (words .entry)) count ⌝ }
 {
-    let needed = generators_end(words, n, k) + BRANCH_NUMBERS * m;
-    if numbers.len() != needed {
+    let needed = numbers_needed(words, layout);
+    if count != needed {
         return Fault {
             number: 3,
             place: needed,

@@ -12,8 +12,8 @@ use Rattle.base.specs.Loop.{loop, tally}
 use Rattle.network.specs.Network.{kindBefore}
 use Rattle.network.specs.Fault.{wordRight, faultWords}
 use Rattle.network.proofs.Steps.{kind-next}
-use Rattle.network.proofs.words.words_fault.Statement.{statement}
-use Rattle.network.proofs.words.words_fault.Tie as tie
+use Rattle.network.proofs.words.wrong_word.Statement.{statement}
+use Rattle.network.proofs.words.wrong_word.Tie as tie
 
 abbrev Inv-loop : tie.InvT-loop
 Inv-loop words before₀ i₀ before i = (i ≤ length words) × (before ≤ i) × (before ≡ kindBefore words 2 i) × Clear (first i (λ j. unless (wordRight words j) (fault 1 j)))
@@ -58,8 +58,8 @@ returns-3 : tie.Need-returns-3 Inv-loop μ-loop
 unfolding faultWords
 returns-3 c = rw (ne-eqb _ _ (c .before .before .if1 .left)) (first-done _ _ _ (omega arith) (λ j. unless-proper _ 1 _ (omega arith)) (c .before .loop .inv .3))
 
-pub words-fault-spec : {M : Type 1} → statement M
-words-fault-spec =
+pub wrong-word-spec : {M : Type 1} → statement M
+wrong-word-spec =
     tie.close
     (tie.spec
     Inv-loop

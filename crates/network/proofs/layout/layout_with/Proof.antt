@@ -1,0 +1,30 @@
+use native.Mathlib.Omega.{arith}
+use borrow.Author.Needs.{needs}
+use Rattle.network.proofs.Places.{words-length, limits}
+use Rattle.network.proofs.layout.layout_with.Statement.{statement}
+use Rattle.network.proofs.layout.layout_with.Tie as tie
+
+generators-end-requires : tie.Need-generators-end-requires
+generators-end-requires c κs = search needs
+
+shared-slice-read-header-costs : tie.Need-shared-slice-read-header-costs
+shared-slice-read-header-costs c = omega (arith, words-length _ (c .before .before .before .pre .4))
+
+header-costs-requires : tie.Need-header-costs-requires
+header-costs-requires c κs = search needs
+
+layout-from-requires : tie.Need-layout-from-requires
+layout-from-requires c κs = let L = limits _ (c .before .before .before .before .pre .5) in (omega (arith, L .few-buses, c .before .before .before .before .pre .0), omega (arith, L .few-generators, c .before .before .before .before .pre .1), omega (arith, L .few-branches, c .before .before .before .before .pre .2))
+
+returns : tie.Need-returns
+returns c = rw (c .layout-from .ensures, c .before .before .before .generators-end .ensures, c .before .header-costs .ensures, c .before .before .before .before .before .pre .0, c .before .before .before .before .before .pre .1, c .before .before .before .before .before .pre .2, c .before .before .before .before .before .pre .3)
+
+pub layout-with-spec : {M : Type 1} → statement M
+layout-with-spec =
+    tie.close
+    (tie.spec
+    generators-end-requires
+    shared-slice-read-header-costs
+    header-costs-requires
+    layout-from-requires
+    returns)
