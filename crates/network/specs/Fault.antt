@@ -40,7 +40,7 @@ module _ (ws : List ℕ) where
   abbrev pub countFault : ℕ → Fault
   countFault count = unless (eqb count (needed ws)) (fault 3 (needed ws))
 
-  -- "1, 2" from the words alone, and "1 to 3" from the words and the number of numbers
+  -- the first of 1 and 2, from the words alone; the first of 1 to 3, from the words and the number of numbers
   unfoldable pub wordsFault : Fault
   wordsFault = orElse faultWords faultSize
 

@@ -1,5 +1,5 @@
--- Document 01, "The network file": where the words and numbers of each kind stand, the records by value, and what a network has that refusals 1
--- to 3 do not refuse.
+-- Document 01, "The network file": where the words and numbers of each kind stand, the records by value, and what a network has that
+-- refusals 1 to 3 do not refuse.
 use Prim.Native.Nat.{ℕ, _+_, _*_, _≤_, _<_}
 use mathlib.Core.Path.{_≡_}
 use mathlib.Core.Bool.{Bool, _&&_}

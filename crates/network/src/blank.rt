@@ -61,7 +61,8 @@ fn blank_buses(words: &[u32], numbers: &[f64], layout: Layout) -> Fault
 fn blank_generator(words: &[u32], numbers: &[f64], layout: Layout, cursor: Cursor) -> Fault
     requires { ⌜ (Laid (now words) (now numbers) layout) × (Standing (now words) layout cursor) × (cursor .index < layout .generators) ⌝ }
     ensures { λ r. ⌜ r ≡ orElse (blanks (now (numbers .entry)) (generatorAt (now (words .entry)) (cursor .index) + 4) 3)
-        (blanks (now (numbers .entry)) (curveAt (now (words .entry)) (cursor .index)) (pointNumbers * points (now (words .entry)) (cursor .index))) ⌝ }
+        (blanks (now (numbers .entry)) (curveAt (now (words .entry)) (cursor .index))
+        (pointNumbers * points (now (words .entry)) (cursor .index))) ⌝ }
 {
     let f = blanks(numbers, cursor.at + 4, 3);
     if f.number != 0 {

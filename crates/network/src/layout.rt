@@ -61,7 +61,8 @@ pub(crate) fn record_end(at: usize, points: usize) -> usize
 
 // Where the generators' numbers end and the branches' start.
 pub(crate) fn generators_end(words: &[u32], n: usize, k: usize) -> usize
-    requires { ⌜ (n ≡ buses (now words)) × (k ≡ generators (now words)) × (faultWords (now words) .number ≡ 0) × (faultSize (now words) .number ≡ 0) ⌝ }
+    requires { ⌜ (n ≡ buses (now words)) × (k ≡ generators (now words))
+        × (faultWords (now words) .number ≡ 0) × (faultSize (now words) .number ≡ 0) ⌝ }
     ensures { λ r. ⌜ r ≡ generatorAt (now (words .entry)) k ⌝ }
 {
     let mut at = BUS_NUMBERS * n;
@@ -97,8 +98,9 @@ fn layout_from(sizes: Sizes, branch_numbers: usize, costs: bool) -> Layout
 
 // Of words that refusals 1 and 2 do not refuse, with their sizes at hand.
 pub(crate) fn layout_with(words: &[u32], sizes: Sizes) -> Layout
-    requires { ⌜ (sizes .buses ≡ buses (now words)) × (sizes .generators ≡ generators (now words)) × (sizes .branches ≡ branches (now words))
-        × (sizes .references ≡ references (now words)) × (faultWords (now words) .number ≡ 0) × (faultSize (now words) .number ≡ 0) ⌝ }
+    requires { ⌜ (sizes .buses ≡ buses (now words)) × (sizes .generators ≡ generators (now words))
+        × (sizes .branches ≡ branches (now words)) × (sizes .references ≡ references (now words))
+        × (faultWords (now words) .number ≡ 0) × (faultSize (now words) .number ≡ 0) ⌝ }
     ensures { λ r. ⌜ r ≡ layoutOf (now (words .entry)) ⌝ }
 {
     let end = generators_end(words, sizes.buses, sizes.generators);

@@ -21,7 +21,8 @@ ghost use Rattle.network.specs.Layout.{LaidWords};
 // The first of k generators whose curve has more than 16 points.
 fn points_fault(words: &[u32], n: usize, k: usize) -> Fault
     requires { ⌜ (n ≡ buses (now words)) × (1 + n + k ≤ length (now words)) ⌝ }
-    ensures { λ r. ⌜ r ≡ first k (λ g. unless (leb (points (now (words .entry)) g) mostPoints) (fault 2 (generatorPlace (now (words .entry)) g))) ⌝ }
+    ensures { λ r. ⌜ r ≡ first k (λ g. unless (leb (points (now (words .entry)) g) mostPoints)
+        (fault 2 (generatorPlace (now (words .entry)) g))) ⌝ }
 {
     let mut g = 0usize;
     while g < k {
@@ -41,7 +42,8 @@ fn points_fault(words: &[u32], n: usize, k: usize) -> Fault
 
 // n, k, m and r are the counts of buses, generators, branches and references.
 pub(crate) fn size_fault(words: &[u32], n: usize, k: usize, m: usize, r: usize) -> Fault
-    requires { ⌜ (n ≡ buses (now words)) × (k ≡ generators (now words)) × (m ≡ branches (now words)) × (r ≡ references (now words)) × (faultWords (now words) .number ≡ 0) ⌝ }
+    requires { ⌜ (n ≡ buses (now words)) × (k ≡ generators (now words)) × (m ≡ branches (now words)) × (r ≡ references (now words))
+        × (faultWords (now words) .number ≡ 0) ⌝ }
     ensures { λ f. ⌜ f ≡ faultSize (now (words .entry)) ⌝ }
 {
     if n < 1 {

@@ -87,9 +87,11 @@ fn bounds_of_generator(g: Generator, pg: usize, qg: usize) -> Fault
 fn bounds_of_generators(words: &[u32], numbers: &[f64], layout: Layout) -> Fault
     requires { ⌜ Laid (now words) (now numbers) layout ⌝ }
     ensures { λ r. ⌜ r ≡ first (layout .generators) (λ g. orElse
-        (unless (not (capable (now (words .entry)) g) || boundsRight (pMin (now (words .entry)) (now (numbers .entry)) g) (pMax (now (words .entry)) (now (numbers .entry)) g))
+        (unless (not (capable (now (words .entry)) g)
+        || boundsRight (pMin (now (words .entry)) (now (numbers .entry)) g) (pMax (now (words .entry)) (now (numbers .entry)) g))
         (fault 7 (pgColumn (now (words .entry)) g)))
-        (unless (not (capable (now (words .entry)) g) || boundsRight (qMin (now (words .entry)) (now (numbers .entry)) g) (qMax (now (words .entry)) (now (numbers .entry)) g))
+        (unless (not (capable (now (words .entry)) g)
+        || boundsRight (qMin (now (words .entry)) (now (numbers .entry)) g) (qMax (now (words .entry)) (now (numbers .entry)) g))
         (fault 7 (qgColumn (now (words .entry)) g)))) ⌝ }
 {
     let pg = 2 * layout.buses;

@@ -27,8 +27,13 @@ blank-branches-requires c κs = search needs
 returns-3 : tie.Need-returns-3
 unfolding faultBlank
 returns-3 c =
-    let L = c .before .before .before .before .before .before .before .before .before .pre .words .is in
-    (rw L at (c .blank-branches .ensures)) ∙ sym (link-go _ _ _ _ (link-go _ _ _ _ refl (rw L at (c .before .before .before .before .before .before .blank-buses .ensures)) (c .before .before .before .before .if1 .left)) (rw L at (c .before .before .before .blank-generators .ensures)) (c .before .if2 .left))
+    let its-pre = c .before .before .before .before .before .before .before .before .before .pre in
+    let blank-buses = c .before .before .before .before .before .before .blank-buses in
+    let blank-generators = c .before .before .before .blank-generators in
+    let if1 = c .before .before .before .before .if1 in
+    let pre = its-pre in
+    let L = pre .words .is in
+    (rw L at (c .blank-branches .ensures)) ∙ sym (link-go _ _ _ _ (link-go _ _ _ _ refl (rw L at (blank-buses .ensures)) (if1 .left)) (rw L at (blank-generators .ensures)) (c .before .if2 .left))
 
 pub blank-fault-spec : {M : Type 1} → statement M
 blank-fault-spec =

@@ -24,7 +24,9 @@ blanks-requires-2 : tie.Need-blanks-requires-2
 blanks-requires-2 c κs = search needs
 
 returns-2 : tie.Need-returns-2
-returns-2 c = (rw (c .before .before .generator-of .ensures .is) at (c .blanks2 .ensures)) ∙ sym (link-go _ _ _ _ refl (rw (c .before .before .before .before .before .before .before .before .before .pre .1 .at) at (c .before .before .before .before .before .blanks .ensures)) (c .before .before .before .if1 .left))
+returns-2 c =
+    let pre = c .before .before .before .before .before .before .before .before .before .pre in
+    (rw (c .before .before .generator-of .ensures .is) at (c .blanks2 .ensures)) ∙ sym (link-go _ _ _ _ refl (rw (pre .1 .at) at (c .before .before .before .before .before .blanks .ensures)) (c .before .before .before .if1 .left))
 
 pub blank-generator-spec : {M : Type 1} → statement M
 blank-generator-spec =

@@ -26,14 +26,30 @@ is-finite-requires c κs = search needs
 returns-3 : tie.Need-returns-3
 unfolding unless orElse
 returns-3 c =
-    let limited = c .before .before .before .before .before .before .before .args .branch .limited in
-    rw (← c .before .before .before .before .before .before .validate-active .ensures, not-false (c .before .before .before .before .before .before .validate-active .result) (c .before .before .before .before .before .if1 .left), ← c .before .before .before .before .validate-active2 .ensures, not-false (c .before .before .before .before .validate-active2 .result) (c .before .before .before .if2 .left), ← c .before .before .is-finite .ensures, not-true (not limited || c .before .before .is-finite .result) (c .if3 .taken))
+    let its-validate-active = c .before .before .before .before .before .before .validate-active in
+    let its-args = c .before .before .before .before .before .before .before .args in
+    let is-finite = c .before .before .is-finite in
+    let its-validate-active2 = c .before .before .before .before .validate-active2 in
+    let if1 = c .before .before .before .before .before .if1 in
+    let validate-active = its-validate-active in
+    let validate-active2 = its-validate-active2 in
+    let args = its-args in
+    let limited = args .branch .limited in
+    rw (← validate-active .ensures, not-false (validate-active .result) (if1 .left), ← validate-active2 .ensures, not-false (validate-active2 .result) (c .before .before .before .if2 .left), ← is-finite .ensures, not-true (not limited || is-finite .result) (c .if3 .taken))
 
 returns-4 : tie.Need-returns-4
 unfolding unless orElse
 returns-4 c =
-    let limited = c .before .before .before .before .before .before .before .args .branch .limited in
-    rw (← c .before .before .before .before .before .before .validate-active .ensures, not-false (c .before .before .before .before .before .before .validate-active .result) (c .before .before .before .before .before .if1 .left), ← c .before .before .before .before .validate-active2 .ensures, not-false (c .before .before .before .before .validate-active2 .result) (c .before .before .before .if2 .left), ← c .before .before .is-finite .ensures, not-false (not limited || c .before .before .is-finite .result) (c .if3 .left))
+    let its-validate-active = c .before .before .before .before .before .before .validate-active in
+    let its-args = c .before .before .before .before .before .before .before .args in
+    let is-finite = c .before .before .is-finite in
+    let its-validate-active2 = c .before .before .before .before .validate-active2 in
+    let if1 = c .before .before .before .before .before .if1 in
+    let validate-active = its-validate-active in
+    let validate-active2 = its-validate-active2 in
+    let args = its-args in
+    let limited = args .branch .limited in
+    rw (← validate-active .ensures, not-false (validate-active .result) (if1 .left), ← validate-active2 .ensures, not-false (validate-active2 .result) (c .before .before .before .if2 .left), ← is-finite .ensures, not-false (not limited || is-finite .result) (c .if3 .left))
 
 pub branch-fault-spec : {M : Type 1} → statement M
 branch-fault-spec =

@@ -46,7 +46,11 @@ loop-less : tie.Need-loop-less Inv-loop μ-loop
 loop-less c = search needs
 
 loop-again : tie.Need-loop-again Inv-loop μ-loop
-loop-again c = (c .next-generator .ensures .0, rw (c .next-generator .ensures .1) (first-step _ _ _ (c .before .before .before .before .before .before .before .before .loop .inv .1) (rw (c .before .before .before .before .generator-of .ensures .is) at (c .before .before .before .curve-at .ensures)) (c .before .if2 .left)))
+loop-again c =
+    let turn = c .before .before .before .before .before .before .before .before .loop in
+    let generator-of = c .before .before .before .before .generator-of in
+    let curve-at = c .before .before .before .curve-at in
+    (c .next-generator .ensures .0, rw (c .next-generator .ensures .1) (first-step _ _ _ (turn .inv .1) (rw (generator-of .ensures .is) at (curve-at .ensures)) (c .before .if2 .left)))
 
 returns-2 : tie.Need-returns-2 Inv-loop μ-loop
 unfolding faultCurve

@@ -49,7 +49,9 @@ generator-points-requires : tie.Need-generator-points-requires Inv-loop μ-loop
 generator-points-requires c κs = search needs
 
 record-end-requires : tie.Need-record-end-requires Inv-loop μ-loop
-record-end-requires c κs = let h = room _ _ _ _ _ _ (c .before .before .before .before .before .pre .0) (c .before .before .before .before .before .pre .1) (c .before .before .before .before .before .pre .3) (c .before .before .before .loop .inv .1) (c .generator-points .ensures) (c .before .before .loop-test .taken) in omega (arith, c .before .before .before .before .before .pre .0)
+record-end-requires c κs =
+    let pre = c .before .before .before .before .before .pre in
+    let h = room _ _ _ _ _ _ (pre .0) (pre .1) (pre .3) (c .before .before .before .loop .inv .1) (c .generator-points .ensures) (c .before .before .loop-test .taken) in omega (arith, pre .0)
 
 add-g : tie.Need-add-g Inv-loop μ-loop
 add-g c = search needs

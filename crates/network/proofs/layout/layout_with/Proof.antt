@@ -14,10 +14,14 @@ header-costs-requires : tie.Need-header-costs-requires
 header-costs-requires c κs = search needs
 
 layout-from-requires : tie.Need-layout-from-requires
-layout-from-requires c κs = let L = limits _ (c .before .before .before .before .pre .5) in (omega (arith, L .few-buses, c .before .before .before .before .pre .0), omega (arith, L .few-generators, c .before .before .before .before .pre .1), omega (arith, L .few-branches, c .before .before .before .before .pre .2))
+layout-from-requires c κs =
+    let pre = c .before .before .before .before .pre in
+    let L = limits _ (pre .5) in (omega (arith, L .few-buses, pre .0), omega (arith, L .few-generators, pre .1), omega (arith, L .few-branches, pre .2))
 
 returns : tie.Need-returns
-returns c = rw (c .layout-from .ensures, c .before .before .before .generators-end .ensures, c .before .header-costs .ensures, c .before .before .before .before .before .pre .0, c .before .before .before .before .before .pre .1, c .before .before .before .before .before .pre .2, c .before .before .before .before .before .pre .3)
+returns c =
+    let pre = c .before .before .before .before .before .pre in
+    rw (c .layout-from .ensures, c .before .before .before .generators-end .ensures, c .before .header-costs .ensures, pre .0, pre .1, pre .2, pre .3)
 
 pub layout-with-spec : {M : Type 1} → statement M
 layout-with-spec =

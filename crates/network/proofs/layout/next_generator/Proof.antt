@@ -21,7 +21,9 @@ add-t6 : tie.Need-add-t6
 add-t6 c = search needs
 
 record-end-requires : tie.Need-record-end-requires
-record-end-requires c κs = let h = cursor-ends (c .before .before .before .before .before .pre .0) (c .before .before .before .before .before .pre .1) (c .before .before .before .before .before .pre .2) (c .before .generator-points .ensures) in omega (arith, c .before .before .before .before .before .pre .0 .few-needed)
+record-end-requires c κs =
+    let pre = c .before .before .before .before .before .pre in
+    let h = cursor-ends (pre .0) (pre .1) (pre .2) (c .before .generator-points .ensures) in omega (arith, pre .0 .few-needed)
 
 returns : tie.Need-returns
 returns c = (next-standing (c .before .before .before .before .before .before .pre .0) (c .before .before .before .before .before .before .pre .1) (c .before .before .before .before .before .before .pre .2) (c .before .before .generator-points .ensures) refl (c .record-end .ensures), refl)

@@ -33,9 +33,14 @@ add-t8 c = search needs
 
 returns : tie.Need-returns Inv-loop μ-loop
 returns c =
-    let L = c .before .before .before .before .before .before .before .before .before .pre .words .is in
+    let its-pre = c .before .before .before .before .before .before .before .before .before .pre in
+    let turn = c .before .before .before .before .before .before .loop in
+    let if1 = c .before .before .before .before .if1 in
+    let validate-active = c .before .before .validate-active in
+    let pre = its-pre in
+    let L = pre .words .is in
     let n = ap (λ l. l .buses) L in
-    rw L (test-here _ 7 _ _ _ (omega arith) (omega (arith, n, c .before .before .before .before .if1 .taken)) (sym (rw (c .before .before .before .bus-of .ensures) at (c .before .before .validate-active .ensures)) ∙ not-true _ (c .before .if2 .taken)) (c .before .before .before .before .before .before .loop .inv .1))
+    rw L (test-here _ 7 _ _ _ (omega arith) (omega (arith, n, if1 .taken)) (sym (rw (c .before .before .before .bus-of .ensures) at (validate-active .ensures)) ∙ not-true _ (c .before .if2 .taken)) (turn .inv .1))
 
 add-i : tie.Need-add-i Inv-loop μ-loop
 add-i c = search needs

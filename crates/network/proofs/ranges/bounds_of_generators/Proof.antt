@@ -38,22 +38,39 @@ add-bounds-of-generator : tie.Need-add-bounds-of-generator Inv-loop μ-loop
 add-bounds-of-generator c = search needs
 
 add-bounds-of-generator-2 : tie.Need-add-bounds-of-generator-2 Inv-loop μ-loop
-add-bounds-of-generator-2 c = omega (arith, c .before .before .before .before .before .before .loop .inv .0 .within, c .before .before .before .before .before .before .before .before .before .before .before .before .pre .words .few-buses, c .before .before .before .before .before .before .before .before .before .before .before .before .pre .words .few-generators)
+add-bounds-of-generator-2 c =
+    let pre = c .before .before .before .before .before .before .before .before .before .before .before .before .pre in
+    omega (arith, c .before .before .before .before .before .before .loop .inv .0 .within, pre .words .few-buses, pre .words .few-generators)
 
 bounds-of-generator-requires : tie.Need-bounds-of-generator-requires Inv-loop μ-loop
 bounds-of-generator-requires c κs = search needs
 
 returns : tie.Need-returns Inv-loop μ-loop
-returns c = first-here _ _ _ _ (c .before .before .before .before .before .before .if1 .taken) (c .before .before .before .before .before .before .before .before .before .loop .inv .1) (rw (c .before .before .before .before .before .generator-of .ensures .is, c .before .before .before .before .before .before .before .before .before .before .before .before .before .before .before .pre .words .is) at (c .before .before .bounds-of-generator .ensures)) (c .if2 .taken)
+returns c =
+    let its-pre = c .before .before .before .before .before .before .before .before .before .before .before .before .before .before .before .pre in
+    let turn = c .before .before .before .before .before .before .before .before .before .loop in
+    let generator-of = c .before .before .before .before .before .generator-of in
+    let if1 = c .before .before .before .before .before .before .if1 in
+    let bounds-of-generator = c .before .before .bounds-of-generator in
+    let pre = its-pre in
+    first-here _ _ _ _ (if1 .taken) (turn .inv .1) (rw (generator-of .ensures .is, pre .words .is) at (bounds-of-generator .ensures)) (c .if2 .taken)
 
 next-generator-requires : tie.Need-next-generator-requires Inv-loop μ-loop
-next-generator-requires c κs = (c .before .before .before .before .before .before .before .before .before .before .before .before .before .before .before .pre .words, c .before .before .before .before .before .before .before .before .before .loop .inv .0, c .before .before .before .before .before .before .if1 .taken)
+next-generator-requires c κs =
+    let pre = c .before .before .before .before .before .before .before .before .before .before .before .before .before .before .before .pre in
+    (pre .words, c .before .before .before .before .before .before .before .before .before .loop .inv .0, c .before .before .before .before .before .before .if1 .taken)
 
 loop-less : tie.Need-loop-less Inv-loop μ-loop
 loop-less c = search needs
 
 loop-again : tie.Need-loop-again Inv-loop μ-loop
-loop-again c = (c .next-generator .ensures .0, rw (c .next-generator .ensures .1) (first-step _ _ _ (c .before .before .before .before .before .before .before .before .before .before .loop .inv .1) (rw (c .before .before .before .before .before .before .generator-of .ensures .is, c .before .before .before .before .before .before .before .before .before .before .before .before .before .before .before .before .pre .words .is) at (c .before .before .before .bounds-of-generator .ensures)) (c .before .if2 .left)))
+loop-again c =
+    let its-pre = c .before .before .before .before .before .before .before .before .before .before .before .before .before .before .before .before .pre in
+    let turn = c .before .before .before .before .before .before .before .before .before .before .loop in
+    let generator-of = c .before .before .before .before .before .before .generator-of in
+    let bounds-of-generator = c .before .before .before .bounds-of-generator in
+    let pre = its-pre in
+    (c .next-generator .ensures .0, rw (c .next-generator .ensures .1) (first-step _ _ _ (turn .inv .1) (rw (generator-of .ensures .is, pre .words .is) at (bounds-of-generator .ensures)) (c .before .if2 .left)))
 
 returns-2 : tie.Need-returns-2 Inv-loop μ-loop
 returns-2 c = first-done _ _ _ (omega (arith, c .if1 .left, c .before .before .before .loop .inv .0 .within)) (λ g. or-proper _ _ (unless-proper _ 7 _ (omega arith))) (c .before .before .before .loop .inv .1)

@@ -29,10 +29,19 @@ branch-limited-requires : tie.Need-branch-limited-requires
 branch-limited-requires c κs = search needs
 
 branch-at-requires : tie.Need-branch-at-requires
-branch-at-requires c κs = omega (arith, c .before .before .before .before .before .before .before .before .pre .0 .branch-fits (c .before .before .before .before .before .before .before .before .args .b) (c .before .before .before .before .before .before .before .before .pre .1), c .before .before .before .before .before .branch-start .ensures .0)
+branch-at-requires c κs =
+    let pre = c .before .before .before .before .before .before .before .before .pre in
+    let args = c .before .before .before .before .before .before .before .before .args in
+    omega (arith, pre .0 .branch-fits (args .b) (pre .1), c .before .before .before .before .before .branch-start .ensures .0)
 
 returns : tie.Need-returns
-returns c = branch-read (c .before .before .before .before .before .before .before .before .before .pre .0) (c .before .before .before .before .before .before .before .before .before .pre .1) (c .before .before .before .before .before .before .branch-start .ensures .0) (c .before .before .before .before .branch-from .ensures) (c .before .before .before .branch-to .ensures) (c .before .before .branch-angled .ensures) (c .before .branch-limited .ensures) (c .branch-at .ensures)
+returns c =
+    let its-pre = c .before .before .before .before .before .before .before .before .before .pre in
+    let branch-start = c .before .before .before .before .before .before .branch-start in
+    let branch-from = c .before .before .before .before .branch-from in
+    let branch-to = c .before .before .before .branch-to in
+    let pre = its-pre in
+    branch-read (pre .0) (pre .1) (branch-start .ensures .0) (branch-from .ensures) (branch-to .ensures) (c .before .before .branch-angled .ensures) (c .before .branch-limited .ensures) (c .branch-at .ensures)
 
 pub branch-of-spec : {M : Type 1} → statement M
 branch-of-spec =

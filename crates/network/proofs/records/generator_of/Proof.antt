@@ -24,10 +24,14 @@ generator-bounded-requires : tie.Need-generator-bounded-requires
 generator-bounded-requires c κs = search needs
 
 generator-at-requires : tie.Need-generator-at-requires
-generator-at-requires c κs = omega (arith, cursor-fits (c .before .before .before .before .before .before .before .before .pre .0) (c .before .before .before .before .before .before .before .before .pre .1) (c .before .before .before .before .before .before .before .before .pre .2) (c .before .before .before .generator-points .ensures))
+generator-at-requires c κs =
+    let pre = c .before .before .before .before .before .before .before .before .pre in
+    omega (arith, cursor-fits (pre .0) (pre .1) (pre .2) (c .before .before .before .generator-points .ensures))
 
 returns : tie.Need-returns
-returns c = generator-read (c .before .before .before .before .before .before .before .before .before .pre .0) (c .before .before .before .before .before .before .before .before .before .pre .1) (c .before .before .before .before .before .before .before .before .before .pre .2) (c .before .before .before .generator-bus .ensures) (c .before .before .generator-bounded .ensures) (c .before .before .before .before .generator-points .ensures) refl (c .generator-at .ensures)
+returns c =
+    let pre = c .before .before .before .before .before .before .before .before .before .pre in
+    generator-read (pre .0) (pre .1) (pre .2) (c .before .before .before .generator-bus .ensures) (c .before .before .generator-bounded .ensures) (c .before .before .before .before .generator-points .ensures) refl (c .generator-at .ensures)
 
 pub generator-of-spec : {M : Type 1} → statement M
 generator-of-spec =

@@ -81,8 +81,12 @@ loop-less c = search needs
 
 loop-again : tie.Need-loop-again Inv-loop μ-loop
 loop-again c =
-    let (l, b, g, m, r) = c .before .before .before .before .before .before .before .before .before .loop .inv in
-    (omega (arith, c .before .before .before .before .before .before .before .before .loop-test .taken), held-next b (c .before .before .before .before .before .before .counted .ensures), held-next g (c .before .before .before .before .counted2 .ensures), held-next m (c .before .before .counted3 .ensures), held-next r (c .counted4 .ensures))
+    let turn = c .before .before .before .before .before .before .before .before .before .loop in
+    let loop-test = c .before .before .before .before .before .before .before .before .loop-test in
+    let counted = c .before .before .before .before .before .before .counted in
+    let counted2 = c .before .before .before .before .counted2 in
+    let (l, b, g, m, r) = turn .inv in
+    (omega (arith, loop-test .taken), held-next b (counted .ensures), held-next g (counted2 .ensures), held-next m (c .before .before .counted3 .ensures), held-next r (c .counted4 .ensures))
 
 returns : tie.Need-returns Inv-loop μ-loop
 unfolding buses generators branches references

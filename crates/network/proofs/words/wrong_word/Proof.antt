@@ -34,7 +34,8 @@ word-right-requires c κs = (c .loop-test .taken, c .before .loop .inv .2)
 
 returns-2 : tie.Need-returns-2 Inv-loop μ-loop
 unfolding faultWords
-returns-2 c = rw (ne-eqb (length (c .before .before .before .before .before .before .args .words .now)) 0 (λ z. omega arith)) (test-here _ 1 _ _ _ (omega arith) (c .before .before .loop-test .taken) (sym (c .before .word-right .ensures) ∙ not-true _ (c .if2 .taken)) (c .before .before .before .loop .inv .3))
+returns-2 c =
+    rw (ne-eqb (length (c .before .before .before .before .before .before .args .words .now)) 0 (λ z. omega arith)) (test-here _ 1 _ _ _ (omega arith) (c .before .before .loop-test .taken) (sym (c .before .word-right .ensures) ∙ not-true _ (c .if2 .taken)) (c .before .before .before .loop .inv .3))
 
 mul-counted : tie.Need-mul-counted Inv-loop μ-loop
 mul-counted c = search needs
@@ -52,7 +53,9 @@ loop-less : tie.Need-loop-less Inv-loop μ-loop
 loop-less c = omega arith
 
 loop-again : tie.Need-loop-again Inv-loop μ-loop
-loop-again c = (omega arith, omega (arith, c .counted .ensures .1, c .before .before .before .before .before .loop .inv .1), rw (add-one, kind-next, ← c .before .before .before .before .before .loop .inv .2, c .counted .ensures .0), test-more _ 1 _ _ (sym (c .before .before .before .word-right .ensures) ∙ not-false _ (c .before .before .if2 .left)) (c .before .before .before .before .before .loop .inv .3))
+loop-again c =
+    let turn = c .before .before .before .before .before .loop in
+    (omega arith, omega (arith, c .counted .ensures .1, turn .inv .1), rw (add-one, kind-next, ← turn .inv .2, c .counted .ensures .0), test-more _ 1 _ _ (sym (c .before .before .before .word-right .ensures) ∙ not-false _ (c .before .before .if2 .left)) (turn .inv .3))
 
 returns-3 : tie.Need-returns-3 Inv-loop μ-loop
 unfolding faultWords
