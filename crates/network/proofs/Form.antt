@@ -12,7 +12,7 @@ use Rattle.base.specs.Fault.{orElse}
 use Rattle.base.specs.declared.Fault.{Fault}
 use Rattle.float.specs.Number.{Doubles}
 use Rattle.network.specs.Fault.{faultWords, faultSize, faultCount, faultBlank, faultCurve, faultShift, faultBounds, faultBranches, faultTables, wordsFault, formFault}
-use Rattle.network.specs.Limits.{generatorNumbers, pointNumbers, branchNumbers, mostPoints, mostNumbers}
+use Rattle.network.specs.Limits.{generatorNumbers, pointNumbers, branchNumbers, mostPoints}
 use Rattle.network.specs.Network.{generators, generatorPlace, branchPlace, points, branchAt, needed}
 use Rattle.network.specs.Word.{generatorBus, generatorBounded, generatorPoints, branchFrom, branchTo, branchAngled, branchLimited}
 use Rattle.network.specs.declared.layout.Layout.{Layout}

@@ -1,7 +1,7 @@
 -- Document 01, "The network file": how many words of each kind, where each one's word and numbers stand, and the numbers by name.
 -- ws are the words, xs the numbers.
 use Prim.Native.Nat.{ℕ, _+_, _-_, _*_}
-use mathlib.Core.Bool.{Bool, true, false, not, _&&_}
+use mathlib.Core.Bool.{Bool, not, _&&_}
 use mathlib.Core.List.{List}
 use lib.ListN.{length, getD}
 use lib.Dec.{eqb}

@@ -1,5 +1,4 @@
 use mathlib.Core.Path.{refl, sym, _∙_}
-use mathlib.Core.Path.{ap}
 use borrow.Author.Needs.{needs}
 use Rattle.base.proofs.Turns.{link-go, link-stop}
 use Rattle.network.specs.Fault.{wordsFault}

@@ -1,6 +1,5 @@
 use mathlib.Core.Path.{refl}
 use Rattle.network.proofs.Form.{first-standing}
-use borrow.Author.Needs.{needs}
 use Rattle.network.proofs.layout.first_generator.Statement.{statement}
 use Rattle.network.proofs.layout.first_generator.Tie as tie
 
