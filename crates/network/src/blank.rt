@@ -1,13 +1,21 @@
 // Refusal 4, blank: the first required number that is not finite.
-use crate::limits::record_end;
-use crate::word::generator_points;
+use crate::layout::Cursor;
+use crate::layout::Layout;
+use crate::layout::POINT_NUMBERS;
+use crate::layout::branch_start;
+use crate::layout::bus_start;
+use crate::layout::first_generator;
+use crate::layout::next_generator;
+use crate::records::generator_of;
 use base::Fault;
 ghost use mathlib.Core.Path.{_≡_};
-ghost use Prim.Native.Nat.{_+_, _*_, _≤_};
+ghost use Prim.Native.Nat.{_+_, _*_, _<_, _≤_};
 ghost use lib.ListN.{length};
 ghost use Rattle.base.specs.Fault.{orElse, first};
-ghost use Rattle.network.specs.Network.{buses, generators, branches, points, generatorAt, curveAt};
+ghost use Rattle.network.specs.Limits.{pointNumbers};
+ghost use Rattle.network.specs.Network.{points, busAt, generatorAt, curveAt, branchAt};
 ghost use Rattle.network.specs.Fault.{blanks, faultBlank};
+ghost use Rattle.network.specs.Layout.{Laid, Standing};
 
 // `count` numbers from `at` on.
 fn blanks(numbers: &[f64], at: usize, count: usize) -> Fault
@@ -30,14 +38,14 @@ fn blanks(numbers: &[f64], at: usize, count: usize) -> Fault
     }
 }
 
-// p_d, q_d, g_s and b_s of n buses.
-fn blank_buses(numbers: &[f64], n: usize) -> Fault
-    requires { ⌜ 8 * n ≤ length (now numbers) ⌝ }
-    ensures { λ r. ⌜ r ≡ first n (λ i. blanks (now (numbers .entry)) (8 * i) 4) ⌝ }
+// p_d, q_d, g_s and b_s of each bus.
+fn blank_buses(words: &[u32], numbers: &[f64], layout: Layout) -> Fault
+    requires { ⌜ Laid (now words) (now numbers) layout ⌝ }
+    ensures { λ r. ⌜ r ≡ first (layout .buses) (λ i. blanks (now (numbers .entry)) (busAt (now (words .entry)) i) 4) ⌝ }
 {
     let mut i = 0usize;
-    while i < n {
-        let f = blanks(numbers, 8 * i, 4);
+    while i < layout.buses {
+        let f = blanks(numbers, bus_start(words, layout, i), 4);
         if f.number != 0 {
             return f;
         }
@@ -49,33 +57,33 @@ fn blank_buses(numbers: &[f64], n: usize) -> Fault
     }
 }
 
-// q, c, c0 and the curve of a generator whose numbers start at `at`.
-fn blank_generator(numbers: &[f64], at: usize, points: usize) -> Fault
-    requires { ⌜ at + 9 + 2 * points ≤ length (now numbers) ⌝ }
-    ensures { λ r. ⌜ r ≡ orElse (blanks (now (numbers .entry)) (at + 4) 3) (blanks (now (numbers .entry)) (at + 9) (2 * points)) ⌝ }
+// q, c, c0 and the curve of the generator at the cursor.
+fn blank_generator(words: &[u32], numbers: &[f64], layout: Layout, cursor: Cursor) -> Fault
+    requires { ⌜ (Laid (now words) (now numbers) layout) × (Standing (now words) layout cursor) × (cursor .index < layout .generators) ⌝ }
+    ensures { λ r. ⌜ r ≡ orElse (blanks (now (numbers .entry)) (generatorAt (now (words .entry)) (cursor .index) + 4) 3)
+        (blanks (now (numbers .entry)) (curveAt (now (words .entry)) (cursor .index))
+        (pointNumbers * points (now (words .entry)) (cursor .index))) ⌝ }
 {
-    let f = blanks(numbers, at + 4, 3);
+    let f = blanks(numbers, cursor.at + 4, 3);
     if f.number != 0 {
         return f;
     }
-    blanks(numbers, at + 9, 2 * points)
+    let g = generator_of(words, numbers, layout, cursor);
+    blanks(numbers, g.curve, POINT_NUMBERS * g.points)
 }
 
-fn blank_generators(words: &[u32], numbers: &[f64], n: usize, k: usize) -> Fault
-    requires { ⌜ (n ≡ buses (now words)) × (1 + n + k ≤ length (now words)) × (generatorAt (now words) k ≤ length (now numbers)) ⌝ }
-    ensures { λ r. ⌜ r ≡ first k (λ g. orElse (blanks (now (numbers .entry)) (generatorAt (now (words .entry)) g + 4) 3)
-        (blanks (now (numbers .entry)) (curveAt (now (words .entry)) g) (2 * points (now (words .entry)) g))) ⌝ }
+fn blank_generators(words: &[u32], numbers: &[f64], layout: Layout) -> Fault
+    requires { ⌜ Laid (now words) (now numbers) layout ⌝ }
+    ensures { λ r. ⌜ r ≡ first (layout .generators) (λ g. orElse (blanks (now (numbers .entry)) (generatorAt (now (words .entry)) g + 4) 3)
+        (blanks (now (numbers .entry)) (curveAt (now (words .entry)) g) (pointNumbers * points (now (words .entry)) g))) ⌝ }
 {
-    let mut at = 8 * n;
-    let mut g = 0usize;
-    while g < k {
-        let points = generator_points(words[1 + n + g]);
-        let f = blank_generator(numbers, at, points);
+    let mut cursor = first_generator(words, layout);
+    while cursor.index < layout.generators {
+        let f = blank_generator(words, numbers, layout, cursor);
         if f.number != 0 {
             return f;
         }
-        at = record_end(at, points);
-        g += 1;
+        cursor = next_generator(words, layout, cursor);
     }
     Fault {
         number: 0,
@@ -83,14 +91,14 @@ fn blank_generators(words: &[u32], numbers: &[f64], n: usize, k: usize) -> Fault
     }
 }
 
-// g to shift of m branches whose numbers start at `start`.
-fn blank_branches(numbers: &[f64], start: usize, m: usize) -> Fault
-    requires { ⌜ start + 11 * m ≤ length (now numbers) ⌝ }
-    ensures { λ r. ⌜ r ≡ first m (λ b. blanks (now (numbers .entry)) (start + 11 * b) 8) ⌝ }
+// g to shift of each branch.
+fn blank_branches(words: &[u32], numbers: &[f64], layout: Layout) -> Fault
+    requires { ⌜ Laid (now words) (now numbers) layout ⌝ }
+    ensures { λ r. ⌜ r ≡ first (layout .branches) (λ b. blanks (now (numbers .entry)) (branchAt (now (words .entry)) b) 8) ⌝ }
 {
     let mut b = 0usize;
-    while b < m {
-        let f = blanks(numbers, start + 11 * b, 8);
+    while b < layout.branches {
+        let f = blanks(numbers, branch_start(words, layout, b), 8);
         if f.number != 0 {
             return f;
         }
@@ -102,25 +110,17 @@ fn blank_branches(numbers: &[f64], start: usize, m: usize) -> Fault
     }
 }
 
-pub(crate) fn blank_fault(
-    words: &[u32],
-    numbers: &[f64],
-    n: usize,
-    k: usize,
-    m: usize,
-    start: usize,
-) -> Fault
-    requires { ⌜ (n ≡ buses (now words)) × (k ≡ generators (now words)) × (m ≡ branches (now words)) × (start ≡ generatorAt (now words) k)
-        × (1 + n + k + m ≤ length (now words)) × (start + 11 * m ≤ length (now numbers)) ⌝ }
+pub(crate) fn blank_fault(words: &[u32], numbers: &[f64], layout: Layout) -> Fault
+    requires { ⌜ Laid (now words) (now numbers) layout ⌝ }
     ensures { λ r. ⌜ r ≡ faultBlank (now (words .entry)) (now (numbers .entry)) ⌝ }
 {
-    let bus = blank_buses(numbers, n);
+    let bus = blank_buses(words, numbers, layout);
     if bus.number != 0 {
         return bus;
     }
-    let generator = blank_generators(words, numbers, n, k);
+    let generator = blank_generators(words, numbers, layout);
     if generator.number != 0 {
         return generator;
     }
-    blank_branches(numbers, start, m)
+    blank_branches(words, numbers, layout)
 }

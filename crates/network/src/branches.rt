@@ -1,37 +1,38 @@
 // Refusals 8, spread, 9, rating, and 10, square, branch by branch.
 use crate::bounds::validate_active;
-use crate::word::branch_angled;
-use crate::word::branch_limited;
+use crate::layout::Layout;
+use crate::records::Branch;
+use crate::records::branch_of;
 use base::Fault;
 ghost use mathlib.Core.Path.{_≡_};
-ghost use Prim.Native.Nat.{_+_, _*_, _<_, _≤_};
-ghost use lib.ListN.{length};
-ghost use Rattle.network.specs.Network.{buses, generators, branches, branchPlace, generatorAt, branchAt};
-ghost use Rattle.network.specs.Fault.{branchFault, faultBranches};
+ghost use mathlib.Core.Bool.{not, _||_};
+ghost use Rattle.base.specs.Fault.{fault, unless, orElse};
+ghost use Rattle.float.specs.Number.{_⊗_, zero64, isFinite};
+ghost use Rattle.network.specs.Bounds.{boundsRight};
+ghost use Rattle.network.specs.Fault.{faultBranches};
+ghost use Rattle.network.specs.Layout.{Laid};
 
-// Branch b, with its word at `place` and its numbers from `at` on.
-fn branch_fault(words: &[u32], numbers: &[f64], place: usize, at: usize, b: usize) -> Fault
-    requires { ⌜ (place ≡ branchPlace (now words) b) × (at ≡ branchAt (now words) b) × (place < length (now words)) × (at + 11 ≤ length (now numbers)) ⌝ }
-    ensures { λ r. ⌜ r ≡ branchFault (now (words .entry)) (now (numbers .entry)) b ⌝ }
+// A branch that is number b.
+fn branch_fault(branch: Branch, b: usize) -> Fault
+    ensures { λ r. ⌜ r ≡ orElse (unless (not (branch .angled) || boundsRight (branch .«angle_min») (branch .«angle_max»)) (fault 8 b))
+        (orElse (unless (not (branch .limited) || boundsRight zero64 (branch .«s_max»)) (fault 9 b))
+        (unless (not (branch .limited) || isFinite (branch .«s_max» ⊗ branch .«s_max»)) (fault 10 b))) ⌝ }
 {
-    let w = words[place];
-    let angled = branch_angled(w);
-    if !validate_active(angled, numbers[at + 8], numbers[at + 9]) {
+    if !validate_active(branch.angled, branch.angle_min, branch.angle_max) {
         return Fault {
             number: 8,
             place: b,
         };
     }
-    let limited = branch_limited(w);
-    let s_max = numbers[at + 10];
-    if !validate_active(limited, 0.0, s_max) {
+    let s_max = branch.s_max;
+    if !validate_active(branch.limited, 0.0, s_max) {
         return Fault {
             number: 9,
             place: b,
         };
     }
     let square = float::is_finite(s_max * s_max);
-    if !(!limited | square) {
+    if !(!branch.limited | square) {
         return Fault {
             number: 10,
             place: b,
@@ -43,21 +44,13 @@ fn branch_fault(words: &[u32], numbers: &[f64], place: usize, at: usize, b: usiz
     }
 }
 
-pub(crate) fn branches_fault(
-    words: &[u32],
-    numbers: &[f64],
-    n: usize,
-    k: usize,
-    m: usize,
-    start: usize,
-) -> Fault
-    requires { ⌜ (n ≡ buses (now words)) × (k ≡ generators (now words)) × (m ≡ branches (now words)) × (start ≡ generatorAt (now words) k)
-        × (1 + n + k + m ≤ length (now words)) × (start + 11 * m ≤ length (now numbers)) ⌝ }
+pub(crate) fn branches_fault(words: &[u32], numbers: &[f64], layout: Layout) -> Fault
+    requires { ⌜ Laid (now words) (now numbers) layout ⌝ }
     ensures { λ r. ⌜ r ≡ faultBranches (now (words .entry)) (now (numbers .entry)) ⌝ }
 {
     let mut b = 0usize;
-    while b < m {
-        let f = branch_fault(words, numbers, 1 + n + k + b, start + 11 * b, b);
+    while b < layout.branches {
+        let f = branch_fault(branch_of(words, numbers, layout, b), b);
         if f.number != 0 {
             return f;
         }

@@ -1,27 +1,33 @@
 // Refusal 5, curve: the first power that is not above the one before.
-use crate::limits::record_end;
-use crate::word::generator_points;
+use crate::layout::Layout;
+use crate::layout::POINT_NUMBERS;
+use crate::layout::first_generator;
+use crate::layout::next_generator;
+use crate::records::generator_of;
 use base::Fault;
 ghost use mathlib.Core.Path.{_≡_};
 ghost use Prim.Native.Nat.{_+_, _-_, _*_, _≤_};
 ghost use lib.Ieee.{lt};
 ghost use lib.ListN.{length};
 ghost use Rattle.base.specs.Fault.{fault, unless, first};
-ghost use Rattle.network.specs.Network.{buses, generators, generatorAt, power};
+ghost use Rattle.network.specs.Limits.{pointNumbers};
+ghost use Rattle.network.specs.Network.{power};
 ghost use Rattle.network.specs.Fault.{faultCurve};
+ghost use Rattle.network.specs.Layout.{Laid};
 
 // One curve, whose points start at `at`.
 fn curve_at(numbers: &[f64], at: usize, points: usize) -> Fault
-    requires { ⌜ at + 2 * points ≤ length (now numbers) ⌝ }
-    ensures { λ r. ⌜ r ≡ first (points - 1) (λ s. unless (lt (power (now (numbers .entry)) at s) (power (now (numbers .entry)) at (s + 1))) (fault 5 (at + 2 * (s + 1)))) ⌝ }
+    requires { ⌜ at + pointNumbers * points ≤ length (now numbers) ⌝ }
+    ensures { λ r. ⌜ r ≡ first (points - 1) (λ s. unless (lt (power (now (numbers .entry)) at s) (power (now (numbers .entry)) at (s + 1)))
+        (fault 5 (at + pointNumbers * (s + 1)))) ⌝ }
 {
     let mut s = 0usize;
     while s + 1 < points {
-        let above = numbers[at + 2 * s] < numbers[at + 2 * (s + 1)];
+        let above = numbers[at + POINT_NUMBERS * s] < numbers[at + POINT_NUMBERS * (s + 1)];
         if !above {
             return Fault {
                 number: 5,
-                place: at + 2 * (s + 1),
+                place: at + POINT_NUMBERS * (s + 1),
             };
         }
         s += 1;
@@ -32,20 +38,18 @@ fn curve_at(numbers: &[f64], at: usize, points: usize) -> Fault
     }
 }
 
-pub(crate) fn curve_fault(words: &[u32], numbers: &[f64], n: usize, k: usize) -> Fault
-    requires { ⌜ (n ≡ buses (now words)) × (k ≡ generators (now words)) × (1 + n + k ≤ length (now words)) × (generatorAt (now words) k ≤ length (now numbers)) ⌝ }
+pub(crate) fn curve_fault(words: &[u32], numbers: &[f64], layout: Layout) -> Fault
+    requires { ⌜ Laid (now words) (now numbers) layout ⌝ }
     ensures { λ r. ⌜ r ≡ faultCurve (now (words .entry)) (now (numbers .entry)) ⌝ }
 {
-    let mut at = 8 * n;
-    let mut g = 0usize;
-    while g < k {
-        let points = generator_points(words[1 + n + g]);
-        let f = curve_at(numbers, at + 9, points);
+    let mut cursor = first_generator(words, layout);
+    while cursor.index < layout.generators {
+        let g = generator_of(words, numbers, layout, cursor);
+        let f = curve_at(numbers, g.curve, g.points);
         if f.number != 0 {
             return f;
         }
-        at = record_end(at, points);
-        g += 1;
+        cursor = next_generator(words, layout, cursor);
     }
     Fault {
         number: 0,

@@ -1,32 +1,33 @@
 // Refusals 6, shift, and 7, bounds.
 use crate::bounds::angle_right;
 use crate::bounds::validate_active;
-use crate::limits::record_end;
-use crate::word::bus_bounded;
-use crate::word::generator_bounded;
-use crate::word::generator_points;
+use crate::layout::Layout;
+use crate::layout::branch_start;
+use crate::layout::first_generator;
+use crate::layout::next_generator;
+use crate::records::Generator;
+use crate::records::bus_of;
+use crate::records::generator_of;
 use base::Fault;
 ghost use mathlib.Core.Path.{_≡_};
 ghost use mathlib.Core.Bool.{not, _||_};
-ghost use Prim.Native.Nat.{_+_, _*_, _<_, _≤_};
-ghost use lib.ListN.{length};
 ghost use Rattle.base.specs.Fault.{fault, unless, orElse, first};
-ghost use Rattle.network.specs.Bounds.{boundsRight, angleRight};
-ghost use Rattle.network.specs.Network.{buses, generators, generatorAt, number, vmBounded, capable, vmColumn, pgColumn, qgColumn, vmMin, vmMax, pMin, pMax, qMin, qMax};
-ghost use Rattle.network.specs.Word.{generatorBounded};
-ghost use Rattle.network.specs.Fault.{faultBounds};
+ghost use Rattle.network.specs.Bounds.{boundsRight};
+ghost use Rattle.network.specs.Network.{vmBounded, capable, vmColumn, pgColumn, qgColumn, vmMin, vmMax, pMin, pMax, qMin, qMax};
+ghost use Rattle.network.specs.Fault.{faultShift, faultBounds};
+ghost use Rattle.network.specs.Layout.{Laid};
 
-// The shifts of m branches whose numbers start at `start`.
-pub(crate) fn shift_fault(numbers: &[f64], start: usize, m: usize) -> Fault
-    requires { ⌜ start + 11 * m ≤ length (now numbers) ⌝ }
-    ensures { λ r. ⌜ r ≡ first m (λ b. unless (angleRight (number (now (numbers .entry)) (start + 11 * b + 7))) (fault 6 (start + 11 * b + 7))) ⌝ }
+pub(crate) fn shift_fault(words: &[u32], numbers: &[f64], layout: Layout) -> Fault
+    requires { ⌜ Laid (now words) (now numbers) layout ⌝ }
+    ensures { λ r. ⌜ r ≡ faultShift (now (words .entry)) (now (numbers .entry)) ⌝ }
 {
     let mut b = 0usize;
-    while b < m {
-        if !angle_right(numbers[start + 11 * b + 7]) {
+    while b < layout.branches {
+        let at = branch_start(words, layout, b) + 7;
+        if !angle_right(numbers[at]) {
             return Fault {
                 number: 6,
-                place: start + 11 * b + 7,
+                place: at,
             };
         }
         b += 1;
@@ -37,18 +38,19 @@ pub(crate) fn shift_fault(numbers: &[f64], start: usize, m: usize) -> Fault
     }
 }
 
-fn bounds_of_buses(words: &[u32], numbers: &[f64], n: usize) -> Fault
-    requires { ⌜ (n ≡ buses (now words)) × (1 + n ≤ length (now words)) × (8 * n ≤ length (now numbers)) ⌝ }
-    ensures { λ r. ⌜ r ≡ first n (λ i. unless (not (vmBounded (now (words .entry)) i) || boundsRight (vmMin (now (words .entry)) (now (numbers .entry)) i) (vmMax (now (words .entry)) (now (numbers .entry)) i))
+fn bounds_of_buses(words: &[u32], numbers: &[f64], layout: Layout) -> Fault
+    requires { ⌜ Laid (now words) (now numbers) layout ⌝ }
+    ensures { λ r. ⌜ r ≡ first (layout .buses) (λ i. unless (not (vmBounded (now (words .entry)) i)
+        || boundsRight (vmMin (now (words .entry)) (now (numbers .entry)) i) (vmMax (now (words .entry)) (now (numbers .entry)) i))
         (fault 7 (vmColumn (now (words .entry)) i))) ⌝ }
 {
     let mut i = 0usize;
-    while i < n {
-        let bounded = bus_bounded(words[1 + i]);
-        if !validate_active(bounded, numbers[8 * i + 4], numbers[8 * i + 5]) {
+    while i < layout.buses {
+        let bus = bus_of(words, numbers, layout, i);
+        if !validate_active(bus.bounded, bus.vm_min, bus.vm_max) {
             return Fault {
                 number: 7,
-                place: n + i,
+                place: layout.buses + i,
             };
         }
         i += 1;
@@ -59,20 +61,18 @@ fn bounds_of_buses(words: &[u32], numbers: &[f64], n: usize) -> Fault
     }
 }
 
-// A generator with word w, numbers from `at` on, and columns pg and qg.
-fn bounds_of_generator(numbers: &[f64], w: u32, at: usize, pg: usize, qg: usize) -> Fault
-    requires { ⌜ at + 4 ≤ length (now numbers) ⌝ }
-    ensures { λ r. ⌜ r ≡ orElse (unless (not (generatorBounded w) || boundsRight (number (now (numbers .entry)) at) (number (now (numbers .entry)) (at + 1))) (fault 7 pg))
-        (unless (not (generatorBounded w) || boundsRight (number (now (numbers .entry)) (at + 2)) (number (now (numbers .entry)) (at + 3))) (fault 7 qg)) ⌝ }
+// A generator with the columns pg and qg.
+fn bounds_of_generator(g: Generator, pg: usize, qg: usize) -> Fault
+    ensures { λ r. ⌜ r ≡ orElse (unless (not (g .bounded) || boundsRight (g .«p_min») (g .«p_max»)) (fault 7 pg))
+        (unless (not (g .bounded) || boundsRight (g .«q_min») (g .«q_max»)) (fault 7 qg)) ⌝ }
 {
-    let bounded = generator_bounded(w);
-    if !validate_active(bounded, numbers[at], numbers[at + 1]) {
+    if !validate_active(g.bounded, g.p_min, g.p_max) {
         return Fault {
             number: 7,
             place: pg,
         };
     }
-    if !validate_active(bounded, numbers[at + 2], numbers[at + 3]) {
+    if !validate_active(g.bounded, g.q_min, g.q_max) {
         return Fault {
             number: 7,
             place: qg,
@@ -84,22 +84,26 @@ fn bounds_of_generator(numbers: &[f64], w: u32, at: usize, pg: usize, qg: usize)
     }
 }
 
-fn bounds_of_generators(words: &[u32], numbers: &[f64], n: usize, k: usize) -> Fault
-    requires { ⌜ (n ≡ buses (now words)) × (k ≡ generators (now words)) × (1 + n + k ≤ length (now words)) × (n + k < 1024) × (generatorAt (now words) k ≤ length (now numbers)) ⌝ }
-    ensures { λ r. ⌜ r ≡ first k (λ g. orElse (unless (not (capable (now (words .entry)) g) || boundsRight (pMin (now (words .entry)) (now (numbers .entry)) g) (pMax (now (words .entry)) (now (numbers .entry)) g)) (fault 7 (pgColumn (now (words .entry)) g)))
-        (unless (not (capable (now (words .entry)) g) || boundsRight (qMin (now (words .entry)) (now (numbers .entry)) g) (qMax (now (words .entry)) (now (numbers .entry)) g)) (fault 7 (qgColumn (now (words .entry)) g)))) ⌝ }
+fn bounds_of_generators(words: &[u32], numbers: &[f64], layout: Layout) -> Fault
+    requires { ⌜ Laid (now words) (now numbers) layout ⌝ }
+    ensures { λ r. ⌜ r ≡ first (layout .generators) (λ g. orElse
+        (unless (not (capable (now (words .entry)) g)
+        || boundsRight (pMin (now (words .entry)) (now (numbers .entry)) g) (pMax (now (words .entry)) (now (numbers .entry)) g))
+        (fault 7 (pgColumn (now (words .entry)) g)))
+        (unless (not (capable (now (words .entry)) g)
+        || boundsRight (qMin (now (words .entry)) (now (numbers .entry)) g) (qMax (now (words .entry)) (now (numbers .entry)) g))
+        (fault 7 (qgColumn (now (words .entry)) g)))) ⌝ }
 {
-    let mut at = 8 * n;
-    let mut g = 0usize;
-    while g < k {
-        let w = words[1 + n + g];
-        let points = generator_points(w);
-        let f = bounds_of_generator(numbers, w, at, 2 * n + g, 2 * n + k + g);
+    let pg = 2 * layout.buses;
+    let qg = pg + layout.generators;
+    let mut cursor = first_generator(words, layout);
+    while cursor.index < layout.generators {
+        let g = generator_of(words, numbers, layout, cursor);
+        let f = bounds_of_generator(g, pg + cursor.index, qg + cursor.index);
         if f.number != 0 {
             return f;
         }
-        at = record_end(at, points);
-        g += 1;
+        cursor = next_generator(words, layout, cursor);
     }
     Fault {
         number: 0,
@@ -107,13 +111,13 @@ fn bounds_of_generators(words: &[u32], numbers: &[f64], n: usize, k: usize) -> F
     }
 }
 
-pub(crate) fn bounds_fault(words: &[u32], numbers: &[f64], n: usize, k: usize) -> Fault
-    requires { ⌜ (n ≡ buses (now words)) × (k ≡ generators (now words)) × (1 + n + k ≤ length (now words)) × (n + k < 1024) × (generatorAt (now words) k ≤ length (now numbers)) ⌝ }
+pub(crate) fn bounds_fault(words: &[u32], numbers: &[f64], layout: Layout) -> Fault
+    requires { ⌜ Laid (now words) (now numbers) layout ⌝ }
     ensures { λ r. ⌜ r ≡ faultBounds (now (words .entry)) (now (numbers .entry)) ⌝ }
 {
-    let bus = bounds_of_buses(words, numbers, n);
+    let bus = bounds_of_buses(words, numbers, layout);
     if bus.number != 0 {
         return bus;
     }
-    bounds_of_generators(words, numbers, n, k)
+    bounds_of_generators(words, numbers, layout)
 }

@@ -3,9 +3,8 @@ ghost use mathlib.Core.Path.{_≡_};
 ghost use mathlib.Core.Bool.{cond};
 ghost use Prim.Native.Nat.{suc, _+_, _<_, _≤_};
 ghost use lib.Dec.{eqb};
-ghost use lib.ListN.{length};
 ghost use Rattle.base.specs.Word.{kindOf};
-ghost use Rattle.network.specs.Network.{kindBefore, buses, generators, branches, references};
+ghost use Rattle.network.specs.Network.{buses, generators, branches, references};
 
 pub struct Sizes {
     pub buses: usize,
@@ -25,26 +24,23 @@ pub(crate) fn counted(count: usize, w: u32, kind: u32) -> usize
     count
 }
 
-fn kind_count(words: &[u32], kind: u32) -> usize
-    ensures { λ r. ⌜ r ≡ kindBefore (now (words .entry)) kind (length (now (words .entry))) ⌝ }
-{
-    let mut count = 0usize;
-    let mut i = 0usize;
-    while i < words.len() {
-        count = counted(count, words[i], kind);
-        i += 1;
-    }
-    count
-}
-
+// One pass for the four kinds.
 pub fn sizes_of(words: &[u32]) -> Sizes
     ensures { λ r. ⌜ (r .buses ≡ buses (now (words .entry))) × (r .generators ≡ generators (now (words .entry)))
         × (r .branches ≡ branches (now (words .entry))) × (r .references ≡ references (now (words .entry))) ⌝ }
 {
-    let buses = kind_count(words, 2);
-    let generators = kind_count(words, 3);
-    let branches = kind_count(words, 4);
-    let references = kind_count(words, 5);
+    let mut buses = 0usize;
+    let mut generators = 0usize;
+    let mut branches = 0usize;
+    let mut references = 0usize;
+    let mut i = 0usize;
+    while i < words.len() {
+        buses = counted(buses, words[i], 2);
+        generators = counted(generators, words[i], 3);
+        branches = counted(branches, words[i], 4);
+        references = counted(references, words[i], 5);
+        i += 1;
+    }
     Sizes {
         buses,
         generators,

@@ -27,7 +27,7 @@ fn word_right(words: &[u32], i: usize, before: usize) -> bool
     later & rising & load
 }
 
-pub(crate) fn words_fault(words: &[u32]) -> Fault
+pub(crate) fn wrong_word(words: &[u32]) -> Fault
     ensures { λ r. ⌜ r ≡ faultWords (now (words .entry)) ⌝ }
 {
     if words.len() == 0 {

@@ -1,34 +1,33 @@
-use Prim.Native.Nat.{_+_, _-_, _*_, _≤_}
 use native.Mathlib.Omega.{arith}
+use Prim.Native.Nat.{_-_, _≤_}
 use borrow.Author.Needs.{needs}
 use Rattle.base.proofs.Firsts.{Clear}
 use Rattle.base.proofs.Turns.{first-none, first-step, first-here, first-done}
 use Rattle.base.specs.Fault.{first}
 use Rattle.network.specs.Fault.{blanks}
+use Rattle.network.specs.Network.{branchAt}
 use Rattle.network.proofs.Steps.{blanks-proper}
 use Rattle.network.proofs.blank.blank_branches.Statement.{statement}
 use Rattle.network.proofs.blank.blank_branches.Tie as tie
 
 abbrev Inv-loop : tie.InvT-loop
-Inv-loop numbers start m b₀ b = (b ≤ m) × Clear (first b (λ j. blanks numbers (start + 11 * j) 8))
+Inv-loop words numbers layout b₀ b =
+    (b ≤ layout .branches) × Clear (first b (λ j. blanks numbers (branchAt words j) 8))
 
 abbrev μ-loop : tie.MeasureT-loop
-μ-loop numbers start m b₀ b = m - b
+μ-loop words numbers layout b₀ b = layout .branches - b
 
 loop-holds : tie.Need-loop-holds Inv-loop μ-loop
 loop-holds c = (omega arith, first-none _)
 
-mul-blanks : tie.Need-mul-blanks Inv-loop μ-loop
-mul-blanks c = search needs
-
-add-blanks : tie.Need-add-blanks Inv-loop μ-loop
-add-blanks c = search needs
+branch-start-requires : tie.Need-branch-start-requires Inv-loop μ-loop
+branch-start-requires c κs = search needs
 
 blanks-requires : tie.Need-blanks-requires Inv-loop μ-loop
-blanks-requires c κs = search needs
+blanks-requires c κs = omega (arith, c .before .before .before .before .before .before .pre .branch-fits (c .before .before .before .loop .b) (c .before .if1 .taken), c .branch-start .ensures .0)
 
 returns : tie.Need-returns Inv-loop μ-loop
-returns c = first-here _ _ _ _ (c .before .before .before .loop-test .taken) (c .before .before .before .before .loop .inv .1) (c .before .before .blanks .ensures) (c .if1 .taken)
+returns c = first-here _ _ _ _ (c .before .before .before .before .if1 .taken) (c .before .before .before .before .before .before .loop .inv .1) (rw (c .before .before .before .branch-start .ensures .0) at (c .before .before .blanks .ensures)) (c .if2 .taken)
 
 add-b : tie.Need-add-b Inv-loop μ-loop
 add-b c = search needs
@@ -37,10 +36,10 @@ loop-less : tie.Need-loop-less Inv-loop μ-loop
 loop-less c = search needs
 
 loop-again : tie.Need-loop-again Inv-loop μ-loop
-loop-again c = (omega arith, first-step _ _ _ (c .before .before .before .before .loop .inv .1) (c .before .before .blanks .ensures) (c .if1 .left))
+loop-again c = (omega (arith, c .before .before .before .before .if1 .taken), first-step _ _ _ (c .before .before .before .before .before .before .loop .inv .1) (rw (c .before .before .before .branch-start .ensures .0) at (c .before .before .blanks .ensures)) (c .if2 .left))
 
 returns-2 : tie.Need-returns-2 Inv-loop μ-loop
-returns-2 c = first-done _ _ _ (omega arith) (λ j. blanks-proper _ _ _) (c .before .loop .inv .1)
+returns-2 c = first-done _ _ _ (omega (arith, c .if1 .left, c .before .before .loop .inv .0)) (λ j. blanks-proper _ _ _) (c .before .before .loop .inv .1)
 
 pub blank-branches-spec : {M : Type 1} → statement M
 blank-branches-spec =
@@ -49,8 +48,7 @@ blank-branches-spec =
     Inv-loop
     μ-loop
     loop-holds
-    mul-blanks
-    add-blanks
+    branch-start-requires
     blanks-requires
     returns
     add-b

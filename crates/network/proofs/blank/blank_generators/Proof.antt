@@ -1,64 +1,47 @@
-use mathlib.Core.Path.{_≡_, sym, _∙_}
-use Prim.Native.Nat.{_+_, _-_, _*_, _≤_}
 use native.Mathlib.Omega.{arith}
+use Prim.Native.Nat.{_+_, _-_, _*_}
 use borrow.Author.Needs.{needs}
 use Rattle.base.proofs.Firsts.{Clear, or-proper}
 use Rattle.base.proofs.Turns.{first-none, first-step, first-here, first-done}
 use Rattle.base.specs.Fault.{orElse, first}
 use Rattle.network.specs.Fault.{blanks}
-use Rattle.network.specs.Network.{generatorAt, curveAt, points}
-use Rattle.network.proofs.Good.{generator-zero, generator-start}
-use Rattle.network.proofs.Steps.{generator-turn, generator-room, blanks-proper}
+use Rattle.network.specs.Limits.{pointNumbers}
+use Rattle.network.specs.Network.{points, generatorAt, curveAt}
+use Rattle.network.specs.Layout.{Standing}
+use Rattle.network.proofs.Steps.{blanks-proper}
 use Rattle.network.proofs.blank.blank_generators.Statement.{statement}
 use Rattle.network.proofs.blank.blank_generators.Tie as tie
 
 abbrev Inv-loop : tie.InvT-loop
-Inv-loop words numbers n k at₀ g₀ at g = (g ≤ k) × (at ≡ generatorAt words g) × Clear (first g (λ j. orElse (blanks numbers (generatorAt words j + 4) 3) (blanks numbers (curveAt words j) (2 * points words j))))
+Inv-loop words numbers layout cursor₀ cursor =
+    Standing words layout cursor × Clear (first (cursor .index) (λ g. orElse (blanks numbers (generatorAt words g + 4) 3) (blanks numbers (curveAt words g) (pointNumbers * points words g))))
 
 abbrev μ-loop : tie.MeasureT-loop
-μ-loop words numbers n k at₀ g₀ at g = k - g
+μ-loop words numbers layout cursor₀ cursor = layout .generators - cursor .index
 
-mul-at : tie.Need-mul-at Inv-loop μ-loop
-mul-at c = omega (arith, c .before .before .pre .0, c .before .before .pre .2, generator-start (c .before .before .args .words .now) (c .before .before .args .k))
+first-generator-requires : tie.Need-first-generator-requires Inv-loop μ-loop
+first-generator-requires c κs = search needs
 
 loop-holds : tie.Need-loop-holds Inv-loop μ-loop
-loop-holds c = (omega arith, rw (c .before .before .pre .0) (sym (generator-zero _)), first-none _)
-
-add-generator-points : tie.Need-add-generator-points Inv-loop μ-loop
-add-generator-points c = search needs
-
-add-generator-points-2 : tie.Need-add-generator-points-2 Inv-loop μ-loop
-add-generator-points-2 c = search needs
-
-mul-generator-points : tie.Need-mul-generator-points Inv-loop μ-loop
-mul-generator-points c = search needs
-
-shared-slice-read-generator-points : tie.Need-shared-slice-read-generator-points Inv-loop μ-loop
-shared-slice-read-generator-points c = search needs
-
-generator-points-requires : tie.Need-generator-points-requires Inv-loop μ-loop
-generator-points-requires c κs = search needs
+loop-holds c = (c .first-generator .ensures .0, rw (c .first-generator .ensures .1) (first-none _))
 
 blank-generator-requires : tie.Need-blank-generator-requires Inv-loop μ-loop
-blank-generator-requires c κs = let h = generator-room _ _ _ _ _ (c .before .before .before .before .before .before .pre .0) (c .before .before .before .loop .inv .1) (c .generator-points .ensures) _ (c .before .before .loop-test .taken) in omega (arith, c .before .before .before .before .before .before .pre)
+blank-generator-requires c κs = search needs
 
 returns : tie.Need-returns Inv-loop μ-loop
-returns c = first-here _ _ _ _ (c .before .before .before .before .before .loop-test .taken) (c .before .before .before .before .before .before .loop .inv .2) (rw (c .before .before .before .generator-points .ensures, c .before .before .before .before .before .before .before .before .before .pre .0, c .before .before .before .before .before .before .loop .inv .1) at (c .before .before .blank-generator .ensures)) (c .if1 .taken)
+returns c = first-here _ _ _ _ (c .before .before .before .if1 .taken) (c .before .before .before .before .before .before .loop .inv .1) (c .before .before .blank-generator .ensures) (c .if2 .taken)
 
-record-end-requires : tie.Need-record-end-requires Inv-loop μ-loop
-record-end-requires c κs = let h = generator-room _ _ _ _ _ (c .before .before .before .before .before .before .before .before .before .pre .0) (c .before .before .before .before .before .before .loop .inv .1) (c .before .before .before .generator-points .ensures) _ (c .before .before .before .before .before .loop-test .taken) in omega (arith, c .before .before .before .before .before .before .before .before .before .pre)
-
-add-g : tie.Need-add-g Inv-loop μ-loop
-add-g c = search needs
+next-generator-requires : tie.Need-next-generator-requires Inv-loop μ-loop
+next-generator-requires c κs = search needs
 
 loop-less : tie.Need-loop-less Inv-loop μ-loop
 loop-less c = search needs
 
 loop-again : tie.Need-loop-again Inv-loop μ-loop
-loop-again c = (omega arith, c .record-end .ensures ∙ generator-turn _ _ _ _ _ (c .before .before .before .before .before .before .before .before .before .before .pre .0) (c .before .before .before .before .before .before .before .loop .inv .1) (c .before .before .before .before .generator-points .ensures), first-step _ _ _ (c .before .before .before .before .before .before .before .loop .inv .2) (rw (c .before .before .before .before .generator-points .ensures, c .before .before .before .before .before .before .before .before .before .before .pre .0, c .before .before .before .before .before .before .before .loop .inv .1) at (c .before .before .before .blank-generator .ensures)) (c .before .if1 .left))
+loop-again c = (c .next-generator .ensures .0, rw (c .next-generator .ensures .1) (first-step _ _ _ (c .before .before .before .before .before .before .before .loop .inv .1) (c .before .before .before .blank-generator .ensures) (c .before .if2 .left)))
 
 returns-2 : tie.Need-returns-2 Inv-loop μ-loop
-returns-2 c = first-done _ _ _ (omega arith) (λ j. or-proper _ _ (blanks-proper _ _ _)) (c .before .loop .inv .2)
+returns-2 c = first-done _ _ _ (omega (arith, c .if1 .left, c .before .before .before .loop .inv .0 .within)) (λ j. or-proper _ _ (blanks-proper _ _ _)) (c .before .before .before .loop .inv .1)
 
 pub blank-generators-spec : {M : Type 1} → statement M
 blank-generators-spec =
@@ -66,17 +49,11 @@ blank-generators-spec =
     (tie.spec
     Inv-loop
     μ-loop
-    mul-at
+    first-generator-requires
     loop-holds
-    add-generator-points
-    add-generator-points-2
-    mul-generator-points
-    shared-slice-read-generator-points
-    generator-points-requires
     blank-generator-requires
     returns
-    record-end-requires
-    add-g
+    next-generator-requires
     loop-less
     loop-again
     returns-2)

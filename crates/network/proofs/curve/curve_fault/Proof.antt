@@ -1,70 +1,62 @@
-use mathlib.Core.Path.{_≡_, sym, _∙_}
-use Prim.Native.Nat.{_+_, _-_, _*_, _≤_}
 use native.Mathlib.Omega.{arith}
+use mathlib.Core.Path.{ap}
+use Prim.Native.Nat.{_+_, _-_, _*_}
 use lib.Ieee.{lt}
 use borrow.Author.Needs.{needs}
-use Rattle.base.proofs.Firsts.{Clear, first-proper, unless-proper}
+use Rattle.base.proofs.Firsts.{Clear, unless-proper, first-proper}
 use Rattle.base.proofs.Turns.{first-none, first-step, first-here, first-done}
 use Rattle.base.specs.Fault.{fault, unless, first}
 use Rattle.network.specs.Fault.{faultCurve}
-use Rattle.network.specs.Network.{generatorAt, curveAt, segments, power}
-use Rattle.network.proofs.Good.{generator-zero, generator-start}
-use Rattle.network.proofs.Steps.{generator-turn, generator-room}
+use Rattle.network.specs.Limits.{pointNumbers}
+use Rattle.network.specs.Network.{segments, curveAt, power}
+use Rattle.network.specs.Layout.{Standing}
 use Rattle.network.proofs.curve.curve_fault.Statement.{statement}
 use Rattle.network.proofs.curve.curve_fault.Tie as tie
 
 abbrev Inv-loop : tie.InvT-loop
-Inv-loop words numbers n k at₀ g₀ at g = (g ≤ k) × (at ≡ generatorAt words g) × Clear (first g (λ j. first (segments words j) (λ s. unless (lt (power numbers (curveAt words j) s) (power numbers (curveAt words j) (s + 1))) (fault 5 (curveAt words j + 2 * (s + 1))))))
+Inv-loop words numbers layout cursor₀ cursor =
+    Standing words layout cursor × Clear (first (cursor .index) (λ g. first (segments words g) (λ s.
+    unless (lt (power numbers (curveAt words g) s) (power numbers (curveAt words g) (s + 1))) (fault 5 (curveAt words g + pointNumbers * (s + 1))))))
 
 abbrev μ-loop : tie.MeasureT-loop
-μ-loop words numbers n k at₀ g₀ at g = k - g
+μ-loop words numbers layout cursor₀ cursor = layout .generators - cursor .index
 
-mul-at : tie.Need-mul-at Inv-loop μ-loop
-mul-at c = omega (arith, c .before .before .pre .0, c .before .before .pre .3, generator-start (c .before .before .args .words .now) (c .before .before .args .k))
+first-generator-requires : tie.Need-first-generator-requires Inv-loop μ-loop
+first-generator-requires c κs = search needs
 
 loop-holds : tie.Need-loop-holds Inv-loop μ-loop
-loop-holds c = (omega arith, rw (c .before .before .pre .0) (sym (generator-zero _)), first-none _)
+loop-holds c = (c .first-generator .ensures .0, rw (c .first-generator .ensures .1) (first-none _))
 
-add-generator-points : tie.Need-add-generator-points Inv-loop μ-loop
-add-generator-points c = search needs
-
-add-generator-points-2 : tie.Need-add-generator-points-2 Inv-loop μ-loop
-add-generator-points-2 c = search needs
-
-mul-generator-points : tie.Need-mul-generator-points Inv-loop μ-loop
-mul-generator-points c = search needs
-
-shared-slice-read-generator-points : tie.Need-shared-slice-read-generator-points Inv-loop μ-loop
-shared-slice-read-generator-points c = search needs
-
-generator-points-requires : tie.Need-generator-points-requires Inv-loop μ-loop
-generator-points-requires c κs = search needs
-
-add-curve-at : tie.Need-add-curve-at Inv-loop μ-loop
-add-curve-at c = let h = generator-room _ _ _ _ _ (c .before .before .before .before .before .before .pre .0) (c .before .before .before .loop .inv .1) (c .generator-points .ensures) _ (c .before .before .loop-test .taken) in omega (arith, c .before .before .before .before .before .before .pre)
+generator-of-requires : tie.Need-generator-of-requires Inv-loop μ-loop
+generator-of-requires c κs = search needs
 
 curve-at-requires : tie.Need-curve-at-requires Inv-loop μ-loop
-curve-at-requires c κs = let h = generator-room _ _ _ _ _ (c .before .before .before .before .before .before .pre .0) (c .before .before .before .loop .inv .1) (c .generator-points .ensures) _ (c .before .before .loop-test .taken) in omega (arith, c .before .before .before .before .before .before .pre)
+curve-at-requires c κs = c .generator-of .ensures .curve
 
 returns : tie.Need-returns Inv-loop μ-loop
 unfolding faultCurve
-returns c = rw (← c .before .before .before .before .before .before .before .before .before .pre .1) (first-here _ _ _ _ (c .before .before .before .before .before .loop-test .taken) (c .before .before .before .before .before .before .loop .inv .2) (rw (c .before .before .before .generator-points .ensures, c .before .before .before .before .before .before .before .before .before .pre .0, c .before .before .before .before .before .before .loop .inv .1) at (c .before .before .curve-at .ensures)) (c .if1 .taken))
+returns c =
+    let k = ap (λ l. l .generators) (c .before .before .before .before .before .before .before .before .before .before .before .pre .words .is) in
+    first-here _ _ _ _ (omega (arith, k, c .before .before .before .before .if1 .taken)) (c .before .before .before .before .before .before .before .loop .inv .1) (rw (c .before .before .before .generator-of .ensures .is) at (c .before .before .curve-at .ensures)) (c .if2 .taken)
 
-record-end-requires : tie.Need-record-end-requires Inv-loop μ-loop
-record-end-requires c κs = let h = generator-room _ _ _ _ _ (c .before .before .before .before .before .before .before .before .before .pre .0) (c .before .before .before .before .before .before .loop .inv .1) (c .before .before .before .generator-points .ensures) _ (c .before .before .before .before .before .loop-test .taken) in omega (arith, c .before .before .before .before .before .before .before .before .before .pre)
-
-add-g : tie.Need-add-g Inv-loop μ-loop
-add-g c = search needs
+next-generator-requires : tie.Need-next-generator-requires Inv-loop μ-loop
+next-generator-requires c κs = search needs
 
 loop-less : tie.Need-loop-less Inv-loop μ-loop
 loop-less c = search needs
 
 loop-again : tie.Need-loop-again Inv-loop μ-loop
-loop-again c = (omega arith, c .record-end .ensures ∙ generator-turn _ _ _ _ _ (c .before .before .before .before .before .before .before .before .before .before .pre .0) (c .before .before .before .before .before .before .before .loop .inv .1) (c .before .before .before .before .generator-points .ensures), first-step _ _ _ (c .before .before .before .before .before .before .before .loop .inv .2) (rw (c .before .before .before .before .generator-points .ensures, c .before .before .before .before .before .before .before .before .before .before .pre .0, c .before .before .before .before .before .before .before .loop .inv .1) at (c .before .before .before .curve-at .ensures)) (c .before .if1 .left))
+loop-again c =
+    let turn = c .before .before .before .before .before .before .before .before .loop in
+    let generator-of = c .before .before .before .before .generator-of in
+    let curve-at = c .before .before .before .curve-at in
+    (c .next-generator .ensures .0, rw (c .next-generator .ensures .1) (first-step _ _ _ (turn .inv .1) (rw (generator-of .ensures .is) at (curve-at .ensures)) (c .before .if2 .left)))
 
 returns-2 : tie.Need-returns-2 Inv-loop μ-loop
 unfolding faultCurve
-returns-2 c = rw (← c .before .before .before .before .pre .1) (first-done _ _ _ (omega arith) (λ j. first-proper _ _ (λ s. unless-proper _ 5 _ (omega arith))) (c .before .loop .inv .2))
+returns-2 c =
+    let k = ap (λ l. l .generators) (c .before .before .before .before .before .before .before .pre .words .is) in
+    first-done _ _ _ (omega (arith, k, c .if1 .left, c .before .before .before .loop .inv .0 .within)) (λ g. first-proper _ _ (λ s. unless-proper _ 5 _ (omega arith))) (c .before .before .before .loop .inv .1)
 
 pub curve-fault-spec : {M : Type 1} → statement M
 curve-fault-spec =
@@ -72,18 +64,12 @@ curve-fault-spec =
     (tie.spec
     Inv-loop
     μ-loop
-    mul-at
+    first-generator-requires
     loop-holds
-    add-generator-points
-    add-generator-points-2
-    mul-generator-points
-    shared-slice-read-generator-points
-    generator-points-requires
-    add-curve-at
+    generator-of-requires
     curve-at-requires
     returns
-    record-end-requires
-    add-g
+    next-generator-requires
     loop-less
     loop-again
     returns-2)

@@ -53,7 +53,9 @@ add-t13 : tie.Need-add-t13 Inv-loop μ-loop
 add-t13 c = search needs
 
 returns : tie.Need-returns Inv-loop μ-loop
-returns c = rw (c .before .before .before .before .before .before .pre .0) (test-here _ 2 _ _ _ (omega arith) (c .before .before .before .loop-test .taken) (many _ _ _ _ (c .before .before .before .before .before .before .pre .0) (c .before .generator-points .ensures) (c .if1 .taken)) (c .before .before .before .before .loop .inv .1))
+returns c =
+    let pre = c .before .before .before .before .before .before .pre in
+    rw (pre .0) (test-here _ 2 _ _ _ (omega arith) (c .before .before .before .loop-test .taken) (many _ _ _ _ (pre .0) (c .before .generator-points .ensures) (c .if1 .taken)) (c .before .before .before .before .loop .inv .1))
 
 add-g : tie.Need-add-g Inv-loop μ-loop
 add-g c = search needs

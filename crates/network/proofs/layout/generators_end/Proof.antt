@@ -11,8 +11,8 @@ use Rattle.network.specs.Network.{buses, generators, generatorAt}
 use Rattle.network.proofs.Places.{words-length, limits}
 use Rattle.network.proofs.Good.{generator-zero, generator-high}
 use Rattle.network.proofs.Steps.{generator-turn, generator-room}
-use Rattle.network.proofs.limits.generators_end.Statement.{statement}
-use Rattle.network.proofs.limits.generators_end.Tie as tie
+use Rattle.network.proofs.layout.generators_end.Statement.{statement}
+use Rattle.network.proofs.layout.generators_end.Tie as tie
 
 -- 8 · 256 + 41 · 256
 room : (ws : List ℕ) (n k g at p : ℕ) → n ≡ buses ws → k ≡ generators ws → Clear (faultSize ws) → at ≡ generatorAt ws g
@@ -49,7 +49,9 @@ generator-points-requires : tie.Need-generator-points-requires Inv-loop μ-loop
 generator-points-requires c κs = search needs
 
 record-end-requires : tie.Need-record-end-requires Inv-loop μ-loop
-record-end-requires c κs = let h = room _ _ _ _ _ _ (c .before .before .before .before .before .pre .0) (c .before .before .before .before .before .pre .1) (c .before .before .before .before .before .pre .3) (c .before .before .before .loop .inv .1) (c .generator-points .ensures) (c .before .before .loop-test .taken) in omega (arith, c .before .before .before .before .before .pre .0)
+record-end-requires c κs =
+    let pre = c .before .before .before .before .before .pre in
+    let h = room _ _ _ _ _ _ (pre .0) (pre .1) (pre .3) (c .before .before .before .loop .inv .1) (c .generator-points .ensures) (c .before .before .loop-test .taken) in omega (arith, pre .0)
 
 add-g : tie.Need-add-g Inv-loop μ-loop
 add-g c = search needs
