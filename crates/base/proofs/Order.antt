@@ -125,6 +125,7 @@ says-first (s ∷ t ∷ later) h o c =
   where
     own : disjoint (s .numbers) (numbersOf (t ∷ later)) ≡ true
     own = and-both (disjoint (s .numbers) (numbersOf (t ∷ later))) (ownNumbers (t ∷ later)) o .0
+
     go : (b : Bool) → eqb (s .its .number) 0 ≡ b → ((Clear (firstOf (t ∷ later)) → ⊥) → Says (firstOf (t ∷ later)) (t ∷ later))
         → Says (firstOf (s ∷ t ∷ later)) (s ∷ t ∷ later)
     go true e k =
@@ -160,9 +161,15 @@ or-assoc f g h = go (eqb (f .number) 0) refl
     go true e = let z = eqb-true _ 0 e in rw (or-go f (orElse g h) z, or-go f g z)
     go false e = let ne = eqb-false _ 0 e in rw (or-stop f (orElse g h) ne, or-stop f g ne, or-stop f h ne)
 
--- the sections below decide first
-pub first-append : (ss : List Section) (t : Section) (later : List Section) → firstOf (ss ++ (t ∷ later)) ≡ orElse (firstOf ss) (firstOf (t ∷ later))
-first-append [] t later = sym (or-go clear (firstOf (t ∷ later)) refl)
-first-append (s ∷ []) t later = refl
-first-append (s ∷ u ∷ ss) t later =
-    ap (orElse (s .its)) (first-append (u ∷ ss) t later) ∙ or-assoc (s .its) (firstOf (u ∷ ss)) (firstOf (t ∷ later))
+-- at least one
+abbrev pub Some : List Section → Type 0
+Some [] = ⊥
+Some (t ∷ later) = Unit {0}
+
+-- the sections before decide first
+pub first-append : (ss ts : List Section) → Some ts → firstOf (ss ++ ts) ≡ orElse (firstOf ss) (firstOf ts)
+first-append ss [] h = absurd h
+first-append [] (t ∷ later) h = sym (or-go clear (firstOf (t ∷ later)) refl)
+first-append (s ∷ []) (t ∷ later) h = refl
+first-append (s ∷ u ∷ ss) (t ∷ later) h =
+    ap (orElse (s .its)) (first-append (u ∷ ss) (t ∷ later) h) ∙ or-assoc (s .its) (firstOf (u ∷ ss)) (firstOf (t ∷ later))
