@@ -92,8 +92,9 @@ module _ (ws : List ℕ) (xs : List Float) where
   -- 1 to 10 in their order
   abbrev pub tableSections : List Section
   tableSections =
-      section (1 ∷ []) (faultWords ws) ∷ section (2 ∷ []) (faultSize ws) ∷ section (3 ∷ []) faultCount ∷ section (4 ∷ []) faultBlank
-      ∷ section (5 ∷ []) faultCurve ∷ section (6 ∷ []) faultShift ∷ section (7 ∷ []) faultBounds ∷ section (8 ∷ 9 ∷ 10 ∷ []) faultBranches ∷ []
+      section (1 ∷ []) (faultWords ws) ∷ section (2 ∷ []) (faultSize ws) ∷ section (3 ∷ []) faultCount
+      ∷ section (4 ∷ []) faultBlank ∷ section (5 ∷ []) faultCurve ∷ section (6 ∷ []) faultShift ∷ section (7 ∷ []) faultBounds
+      ∷ section (8 ∷ 9 ∷ 10 ∷ []) faultBranches ∷ []
 
   -- the first of them
   unfoldable pub faultTables : Fault

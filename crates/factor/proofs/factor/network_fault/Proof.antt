@@ -1,4 +1,4 @@
-use mathlib.Core.Path.{refl, sym, ap, _∙_}
+use mathlib.Core.Path.{sym, ap, _∙_}
 use Rattle.base.proofs.Turns.{link-go, link-stop}
 use Rattle.acopf.proofs.Order.{network-is}
 use borrow.Author.Needs.{needs}
