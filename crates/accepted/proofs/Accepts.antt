@@ -26,6 +26,7 @@ use Rattle.accepted.proofs.Largest.{largest-law, largestWhere-law}
 use Rattle.accepted.specs.Accepted.{Within, Accepted}
 use Rattle.validate.specs.declared.Checked.{Checked}
 use Rattle.validate.specs.Check.{tiny64, tolerances, Solved, solved, faultOutput, faultPoint, faultSwing, faultDerived, faultResidual, faultOf, checkFault, checked}
+use Rattle.validate.proofs.Order.{check-is}
 use Rattle.derived.specs.Outputs.{ownObjective, flows, outputs}
 use Rattle.residuals.specs.Residuals.{activeBalance, reactiveBalance, thermalLimits, variableBounds, referenceAngles, angleLimits, epigraphs, objectiveDifference, residuals}
 
@@ -80,15 +81,15 @@ module _ (ws : List ℕ) (xs x : List Float) (solver : Float) where
   balance-never-15 h p q = first-proper _ _ (λ i. unless-proper _ 15 i (omega arith)) (derived-exactly .1 (h, p, q))
 
   check-proper : (lent : ℕ) → Proper (checkFault ws xs x solver lent)
-  unfolding checkFault faultOf faultResidual
+  unfolding faultResidual
   check-proper lent =
-      or-proper _ _ (or-proper _ _ (or-proper _ _ (or-proper _ _ (or-proper _ _ (first-proper _ _ (λ i. unless-proper _ 16 _ (omega arith)))))))
+      rw (check-is ws xs x solver lent) (or-proper _ _ (or-proper _ _ (or-proper _ _ (or-proper _ _ (or-proper _ _ (first-proper _ _ (λ i. unless-proper _ 16 _ (omega arith))))))))
 
   module _ (lent : ℕ) where
     pub accepted-means : checkFault ws xs x solver lent ≡ clear → Accepted ws xs x solver lent
-    unfolding checkFault faultOf faultOutput faultPoint faultSwing solved residuals tolerances activeBalance reactiveBalance variableBounds referenceAngles angleLimits thermalLimits epigraphs objectiveDifference
+    unfolding faultOutput faultPoint faultSwing solved residuals tolerances activeBalance reactiveBalance variableBounds referenceAngles angleLimits thermalLimits epigraphs objectiveDifference
     accepted-means e =
-        let c = ap (λ f. f .number) e in
+        let c = ap (λ f. f .number) (sym (check-is ws xs x solver lent) ∙ e) in
         let network = or-left (networkFault ws xs) _ c in
         let c1 = or-right (networkFault ws xs) _ c in
         let room = or-left (faultOutput ws xs x solver lent) _ c1 in
@@ -122,8 +123,9 @@ module _ (ws : List ℕ) (xs x : List Float) (solver : Float) where
         }
 
     means-accepted : Accepted ws xs x solver lent → Clear (checkFault ws xs x solver lent)
-    unfolding checkFault faultOf faultOutput faultPoint faultSwing solved residuals tolerances activeBalance reactiveBalance variableBounds referenceAngles angleLimits thermalLimits epigraphs objectiveDifference
+    unfolding faultOutput faultPoint faultSwing solved residuals tolerances activeBalance reactiveBalance variableBounds referenceAngles angleLimits thermalLimits epigraphs objectiveDifference
     means-accepted a =
+        ap (λ f. f .number) (check-is ws xs x solver lent) ∙
         or-clear (networkFault ws xs) _ (ap (λ f. f .number) (a .sound .network))
         (or-clear (faultOutput ws xs x solver lent) _ (test _ _ (le-leb _ _ (a .sound .room)))
         (or-clear (faultPoint ws xs x solver) _ (or-clear (unless (eqb (length x) (columns ws)) (fault 13 (columns ws))) (firstNonFinite 13 x) (test _ _ (eq-eqb _ _ (a .sound .columns-given))) (non-finite-clear 13 x (omega arith) .1 (a .sound .point-finite)))

@@ -1,6 +1,5 @@
 -- Laws of first faults: what a clear answer means, and that a refusal is the first.
 use mathlib.Core.Path.{_≡_, refl, _∙_}
-use mathlib.Core.List.{List, [], _∷_}
 use mathlib.Core.Bool.{Bool, true, false, cond}
 use Prim.Native.Nat.{ℕ, zero, suc, _-_, _≤_, _<_}
 use native.Mathlib.Omega.{arith}
@@ -149,61 +148,3 @@ spans-first (suc n) h = spans-or (spans-first n h) (h n)
 
 pub spans-wide : {lo hi lo′ hi′ : ℕ} {f : Fault} → lo′ ≤ lo → hi ≤ hi′ → Spans lo hi f → Spans lo′ hi′ f
 spans-wide h k s = record { low = λ c. omega (arith, s .low c); high = λ c. omega (arith, s .high c) }
-
--- sections in order: each with the highest number that it gives
-pub record Section : Type 0 where
-  pub highest : ℕ
-  pub its : Fault
-
-abbrev pub section : ℕ → Fault → Section
-section h f = record { highest = h; its = f }
-
--- the first that refuses, the last if none does
-abbrev pub chain : Section → List Section → Fault
-chain s [] = s .its
-chain s (t ∷ ts) = orElse (s .its) (chain t ts)
-
-abbrev pub InOrder : ℕ → Section → List Section → Type 0
-InOrder lo s [] = (lo ≤ s .highest) × Spans (suc lo) (s .highest) (s .its)
-InOrder lo s (t ∷ ts) = (lo ≤ s .highest) × Spans (suc lo) (s .highest) (s .its) × InOrder (s .highest) t ts
-
--- what a refusal f with a number says of every section: the sections of lower numbers are clear, and f is its own section's
-abbrev pub SaysOf : Fault → ℕ → Section → Type 0
-SaysOf f lo s = (s .highest < f .number → Clear (s .its)) × (lo < f .number → f .number ≤ s .highest → f ≡ s .its)
-
-abbrev pub Says : Fault → ℕ → Section → List Section → Type 0
-Says f lo s [] = SaysOf f lo s
-Says f lo s (t ∷ ts) = SaysOf f lo s × Says f (s .highest) t ts
-
-chain-above : (lo : ℕ) (s : Section) (ts : List Section) → InOrder lo s ts → (Clear (chain s ts) → ⊥) → lo < chain s ts .number
-chain-above lo s [] o c = o .1 .low c
-chain-above lo s (t ∷ ts) o c = go (eqb (s .its .number) 0) refl (chain-above (s .highest) t ts (o .2))
-  where
-    go : (b : Bool) → eqb (s .its .number) 0 ≡ b → ((Clear (chain t ts) → ⊥) → s .highest < chain t ts .number) → lo < chain s (t ∷ ts) .number
-    go true e k =
-        let p = or-go (s .its) (chain t ts) (eqb-true _ 0 e) in
-        rw p (omega (arith, k (λ z. c (rw p z)), o .0))
-    go false e k =
-        let ne = eqb-false _ 0 e in
-        rw (or-stop (s .its) (chain t ts) ne) (o .1 .low ne)
-
-says-low : (f : Fault) (lo : ℕ) (s : Section) (ts : List Section) → InOrder lo s ts → f .number ≤ lo → Says f lo s ts
-says-low f lo s [] o h = (λ l. absurd (omega (arith, o .0)), λ l m. absurd (omega arith))
-says-low f lo s (t ∷ ts) o h = ((λ l. absurd (omega (arith, o .0)), λ l m. absurd (omega arith)), says-low f (s .highest) t ts (o .2) (omega (arith, o .0)))
-
-pub refusal-is-first : (lo : ℕ) (s : Section) (ts : List Section) → InOrder lo s ts → (Clear (chain s ts) → ⊥) → Says (chain s ts) lo s ts
-refusal-is-first lo s [] o c = (λ l. absurd (omega (arith, o .1 .high c)), λ l m. refl)
-refusal-is-first lo s (t ∷ ts) o c = go (eqb (s .its .number) 0) refl (refusal-is-first (s .highest) t ts (o .2))
-  where
-    go : (b : Bool) → eqb (s .its .number) 0 ≡ b → ((Clear (chain t ts) → ⊥) → Says (chain t ts) (s .highest) t ts) → Says (chain s (t ∷ ts)) lo s (t ∷ ts)
-    go true e k =
-        let z = eqb-true _ 0 e in
-        let p = or-go (s .its) (chain t ts) z in
-        let c′ : Clear (chain t ts) → ⊥ = λ y. c (rw p y) in
-        let up = chain-above (s .highest) t ts (o .2) c′ in
-        rw p ((λ l. z, λ l m. absurd (omega arith)), k c′)
-    go false e k =
-        let ne = eqb-false _ 0 e in
-        let p = or-stop (s .its) (chain t ts) ne in
-        let up = o .1 .high ne in
-        rw p ((λ l. absurd (omega arith), λ l m. refl), says-low (s .its) (s .highest) t ts (o .2) (omega arith))

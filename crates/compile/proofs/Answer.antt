@@ -13,13 +13,14 @@ use Rattle.base.specs.Fault.{fault, unless, first}
 use Rattle.base.proofs.Firsts.{Clear, or-left, or-clear, or-go, or-stop, unless-clear, all-clear}
 use Rattle.network.specs.Fault.{faultTables}
 use Rattle.acopf.specs.Factor.{faultFactor, networkFault}
+use Rattle.acopf.proofs.Order.{network-is}
 use Rattle.compile.specs.declared.Compiled.{Compiled}
 use Rattle.compile.specs.Compile.{lengths, faultShort, compileFault, refused, accepted, compiled, sized}
+use Rattle.compile.proofs.Order.{compile-is}
 
 module _ (ws : List ℕ) (xs : List Float) where
   pub tables-clear : {f : Fault} → f ≡ networkFault ws xs → Clear f → Clear (faultTables ws xs)
-  unfolding networkFault
-  tables-clear e c = or-left (faultTables ws xs) (faultFactor ws xs) (ap (λ x. x .number) (sym e) ∙ c)
+  tables-clear e c = or-left (faultTables ws xs) (faultFactor ws xs) (ap (λ x. x .number) (sym (network-is ws xs) ∙ sym e) ∙ c)
 
   compiled-refused : (lent : List ℕ) {f : Fault} → f ≡ compileFault ws xs lent → (Clear f → ⊥) → refused f ≡ compiled ws xs lent
   unfolding compiled
@@ -33,8 +34,8 @@ module _ (ws : List ℕ) (xs : List Float) where
 
   -- whatever the lists' lengths, the network's refusal is the answer
   network-refused : (lent : List ℕ) {f : Fault} → f ≡ networkFault ws xs → (Clear f → ⊥) → refused f ≡ compiled ws xs lent
-  unfolding compileFault
-  network-refused lent {f} e n = compiled-refused lent (e ∙ sym (or-stop (networkFault ws xs) (faultShort ws xs lent) (λ c. n (ap (λ x. x .number) e ∙ c)))) n
+  network-refused lent {f} e n =
+      compiled-refused lent (e ∙ sym (compile-is ws xs lent ∙ or-stop (networkFault ws xs) (faultShort ws xs lent) (λ c. n (ap (λ x. x .number) e ∙ c)))) n
 
   -- lists that are as long as their results suffice
   lengths-suffice : Clear (faultShort ws xs (lengths ws xs))
@@ -46,8 +47,10 @@ module _ (ws : List ℕ) (xs : List Float) where
   sized-refused p e n = p ∙ network-refused (lengths ws xs) e n
 
   pub sized-accepted : {f : Fault} {r : Compiled} → r ≡ accepted ws xs → f ≡ networkFault ws xs → Clear f → r ≡ sized ws xs
-  unfolding sized compileFault
-  sized-accepted p e c = p ∙ compiled-accepted (lengths ws xs) (or-clear (networkFault ws xs) (faultShort ws xs (lengths ws xs)) (ap (λ x. x .number) (sym e) ∙ c) lengths-suffice)
+  unfolding sized
+  sized-accepted p e c =
+      p ∙ compiled-accepted (lengths ws xs)
+      (rw (compile-is ws xs (lengths ws xs)) (or-clear (networkFault ws xs) (faultShort ws xs (lengths ws xs)) (ap (λ x. x .number) (sym e) ∙ c) lengths-suffice))
 
   -- ---- by the lists
 
@@ -91,8 +94,7 @@ module _ (ws : List ℕ) (xs : List Float) where
   short-is lent e = ap (λ a. shortOf a lent) e
 
   fault-is : (lent : List ℕ) {answer : Compiled} {short : Fault} → Clear (networkFault ws xs) → answer ≡ accepted ws xs → short ≡ shortOf answer lent → short ≡ compileFault ws xs lent
-  unfolding compileFault
-  fault-is lent c e s = s ∙ short-is lent e ∙ sym (or-go (networkFault ws xs) (faultShort ws xs lent) c)
+  fault-is lent c e s = s ∙ short-is lent e ∙ sym (compile-is ws xs lent ∙ or-go (networkFault ws xs) (faultShort ws xs lent) c)
 
   pub decided-short : (lent : List ℕ) {answer r : Compiled} {short : Fault} → answer ≡ sized ws xs → answer .number ≡ 0 → short ≡ shortOf answer lent → (Clear short → ⊥)
       → r ≡ refused short → r ≡ compiled ws xs lent

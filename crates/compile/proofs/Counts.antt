@@ -23,6 +23,7 @@ use Rattle.acopf.proofs.Counts.{lower-columns, upper-columns, start-columns, lo
 use Rattle.compile.specs.declared.Compiled.{Compiled}
 use Rattle.compile.specs.Compile.{lengths, faultShort, compileFault, refused, accepted, compiled}
 use Rattle.compile.specs.Counted.{Counted, Suffice, Fronts}
+use Rattle.compile.proofs.Order.{compile-is}
 
 -- the answer of one of two whose number is 0, where the other's is not
 answered : (P : Compiled → Type 0) (b : Bool) (full refused : Compiled) → P full → (b ≡ false → refused .number ≡ 0 → ⊥) → cond b full refused .number ≡ 0 → P (cond b full refused)
@@ -104,11 +105,11 @@ module _ (ws : List ℕ) (xs : List Float) where
 
     -- the answer is 0 exactly where the network is not refused and the lists suffice: "12 where lists suffice" is ruled out
     pub compiled-exactly : (compiled ws xs lent .number ≡ 0) ↔ ((networkFault ws xs ≡ clear) × Suffice ws xs lent)
-    unfolding compileFault
     compiled-exactly = (
-      λ e. let c : Clear (compileFault ws xs lent) = sym number-is ∙ e in
+      λ e. let c = ap (λ f. f .number) (sym (compile-is ws xs lent)) ∙ sym number-is ∙ e in
           (network-proper ws xs (or-left (networkFault ws xs) (faultShort ws xs lent) c), short-exactly .0 (short-proper (or-right (networkFault ws xs) (faultShort ws xs lent) c))),
-      λ h. number-is ∙ or-clear (networkFault ws xs) (faultShort ws xs lent) (ap (λ f. f .number) (h .0)) (ap (λ f. f .number) (short-exactly .1 (h .1))),
+      λ h. number-is ∙ ap (λ f. f .number) (compile-is ws xs lent)
+          ∙ or-clear (networkFault ws xs) (faultShort ws xs lent) (ap (λ f. f .number) (h .0)) (ap (λ f. f .number) (short-exactly .1 (h .1))),
     )
 
     pub fronts : compiled ws xs lent .number ≡ 0 → Fronts ws xs lent

@@ -1,19 +1,19 @@
 -- Document 01, "The model file" and refusal 12: what compile answers, and what the seven lent lists then hold.
 use Prim.Native.Nat.{ℕ, _+_}
 use mathlib.Core.Bool.{cond}
-use mathlib.Core.List.{List, [], _∷_}
+use mathlib.Core.List.{List, [], _∷_, _++_}
 use lib.ListN.{length, getD}
 use lib.Dec.{eqb, leb}
 use lib.Ieee.{Float}
 use Rattle.base.specs.declared.Fault.{Fault}
-use Rattle.base.specs.Fault.{fault, unless, orElse, first, left}
+use Rattle.base.specs.Fault.{fault, unless, first, Section, section, firstOf, left}
 use Rattle.float.specs.Number.{zero64}
 use Rattle.network.specs.Network.{columns}
 use Rattle.acopf.specs.Columns.{columnLower, columnUpper, columnStart}
 use Rattle.acopf.specs.Parts.{sharedParts}
 use Rattle.acopf.specs.Rows.{rows, rowLower, rowUpper}
 use Rattle.acopf.specs.Model.{objectiveConstant, fileWords}
-use Rattle.acopf.specs.Factor.{constants64, networkFault}
+use Rattle.acopf.specs.Factor.{constants64, networkSections}
 use Rattle.compile.specs.declared.Compiled.{Compiled}
 
 -- "A refusal gives number and place, all else 0"
@@ -34,8 +34,11 @@ module _ (ws : List ℕ) (xs : List Float) where
       first 7 (λ i. unless (leb (getD needs i 0) (getD lent i 0)) (fault 12 (i + 1)))
 
   -- "Compile uses 1-12"
+  abbrev pub compileSections : List ℕ → List Section
+  compileSections lent = networkSections ws xs ++ (section (12 ∷ []) (faultShort lent) ∷ [])
+
   unfoldable pub compileFault : List ℕ → Fault
-  compileFault lent = orElse (networkFault ws xs) (faultShort lent)
+  compileFault lent = firstOf (compileSections lent)
 
   -- "five counts (words, constants, columns, rows, shared parts) and the objective constant"
   unfoldable pub accepted : Compiled

@@ -1,18 +1,21 @@
 -- The check from its entry on: each refusal's way out, and what holds where 1 to 14 are clear.
-use mathlib.Core.Path.{_≡_, ap, sym, _∙_}
+use mathlib.Core.Path.{_≡_, refl, ap, sym, _∙_}
 use mathlib.Core.List.{List}
-use Prim.Native.Nat.{ℕ, _+_, _*_, _≤_, _<_, _-_}
+use Prim.Native.Nat.{ℕ, _+_, _*_, _≤_, _-_}
 use native.Mathlib.Omega.{arith}
 use lib.ListN.{length, take}
 use lib.Ieee.{Float}
 use borrow.Author.Tests.{leb-true, eqb-true, eq-eqb}
 use Rattle.base.specs.declared.Fault.{Fault}
 use Rattle.base.proofs.Firsts.{Clear, or-left, unless-true, or-go, unless-clear}
+use Rattle.base.specs.Order.{numbersOf}
+use Rattle.base.proofs.Order.{other-number}
 use Rattle.base.proofs.Loops.{tally-le}
 use Rattle.network.specs.Network.{buses, generators, branches, curved, epigraphsBefore, columns}
 use Rattle.network.proofs.Good.{Good, good}
-use Rattle.acopf.specs.Factor.{networkFault, firstNonFinite}
-use Rattle.acopf.proofs.Order.{network-spans}
+use Rattle.network.specs.Fault.{faultTables}
+use Rattle.acopf.specs.Factor.{faultFactor, networkSections, networkFault, firstNonFinite}
+use Rattle.acopf.proofs.Order.{network-is, network-refusal}
 use Rattle.validate.specs.declared.Checked.{Checked}
 use Rattle.validate.specs.Check.{faultOutput, faultPoint, faultSwing, checkFault, checked, outputsAfter}
 use Rattle.validate.specs.Verdict.{refusal}
@@ -31,8 +34,11 @@ module _ (ws : List ℕ) where
 
 module _ (ws : List ℕ) (xs : List Float) where
   pub network-good : Clear (networkFault ws xs) → Good ws xs
-  unfolding networkFault
-  network-good c = good ws xs (or-left _ _ c)
+  network-good c = good ws xs (or-left (faultTables ws xs) (faultFactor ws xs) (ap (λ f. f .number) (sym (network-is ws xs)) ∙ c))
+
+  -- the numbers of the network's sections
+  not-16 : (Clear (networkFault ws xs) → ⊥) → networkFault ws xs .number ≡ 16 → ⊥
+  not-16 c = other-number (networkFault ws xs .number) 16 (numbersOf (networkSections ws xs)) (network-refusal ws xs c .has) refl
 
   pub few-columns : Good ws xs → columns ws ≤ 1280
   unfolding columns epigraphsBefore
@@ -52,7 +58,7 @@ module _ (ws : List ℕ) (xs x : List Float) (solver : Float) where
   output-room lent c = leb-true _ _ (unless-true _ 12 1 (omega arith) c)
 
   module _ (before : List Float) (f : Fault) (r : Checked) (says : r ≡ refusal f) (refuses : f .number ≡ 0 → ⊥) where
-    stop : f ≡ checkFault ws xs x solver (length before) → f .number < 16 → (r ≡ checked ws xs x solver (length before)) × (before ≡ outputsAfter ws xs x solver before)
+    stop : f ≡ checkFault ws xs x solver (length before) → (f .number ≡ 16 → ⊥) → (r ≡ checked ws xs x solver (length before)) × (before ≡ outputsAfter ws xs x solver before)
     stop e l = (says ∙ refused-is ws xs x solver (length before) f e refuses l, list-kept ws xs x solver before f e refuses)
 
     number : {g : Fault} → f ≡ g → Clear g → ⊥
@@ -60,21 +66,21 @@ module _ (ws : List ℕ) (xs x : List Float) (solver : Float) where
 
     pub stop-network : f ≡ networkFault ws xs → (r ≡ checked ws xs x solver (length before)) × (before ≡ outputsAfter ws xs x solver before)
     stop-network e =
-        stop (e ∙ by-network ws xs x solver (length before) (number e)) (omega (arith, ap (λ y. y .number) e, network-spans ws xs .high (number e)))
+        stop (e ∙ by-network ws xs x solver (length before) (number e)) (λ z. not-16 ws xs (number e) (sym (ap (λ y. y .number) e) ∙ z))
 
     module _ (network : Clear (networkFault ws xs)) where
       pub stop-output : f ≡ faultOutput ws xs x solver (length before) → (r ≡ checked ws xs x solver (length before)) × (before ≡ outputsAfter ws xs x solver before)
       stop-output e =
-          stop (e ∙ by-output ws xs x solver (length before) network (number e)) (omega (arith, ap (λ y. y .number) e, output-spans ws xs x solver (length before) .high (number e)))
+          stop (e ∙ by-output ws xs x solver (length before) network (number e)) (λ z. omega (arith, ap (λ y. y .number) e, output-spans ws xs x solver (length before) .high (number e)))
 
       module _ (output : Clear (faultOutput ws xs x solver (length before))) where
         pub stop-point : f ≡ faultPoint ws xs x solver → (r ≡ checked ws xs x solver (length before)) × (before ≡ outputsAfter ws xs x solver before)
         stop-point e =
-            stop (e ∙ by-point ws xs x solver (length before) network output (number e)) (omega (arith, ap (λ y. y .number) e, point-spans ws xs x solver .high (number e)))
+            stop (e ∙ by-point ws xs x solver (length before) network output (number e)) (λ z. omega (arith, ap (λ y. y .number) e, point-spans ws xs x solver .high (number e)))
 
         pub stop-swing : Clear (faultPoint ws xs x solver) → f ≡ faultSwing ws xs x solver → (r ≡ checked ws xs x solver (length before)) × (before ≡ outputsAfter ws xs x solver before)
         stop-swing point e =
-            stop (e ∙ by-swing ws xs x solver (length before) network output point (number e)) (omega (arith, ap (λ y. y .number) e, swing-spans ws xs x solver .high (number e)))
+            stop (e ∙ by-swing ws xs x solver (length before) network output point (number e)) (λ z. omega (arith, ap (λ y. y .number) e, swing-spans ws xs x solver .high (number e)))
 
 -- 13, where the length is right
 pub point-rest : (ws : List ℕ) (xs x : List Float) (solver : Float) (count : ℕ) → count ≡ columns ws → length x ≡ count

@@ -1,5 +1,5 @@
 -- A refusal of the check is the first.
-use mathlib.Core.Path.{_≡_, ap}
+use mathlib.Core.Path.{_≡_, refl, ap}
 use mathlib.Core.List.{List, [], _∷_, _++_}
 use mathlib.Core.Bool.{not}
 use Prim.Native.Nat.{ℕ, _+_, _-_, _*_, _<_}
@@ -9,16 +9,18 @@ use lib.Seq.{getD-append-add}
 use lib.Dec.{eqb}
 use lib.Ieee.{Float, nan, lt}
 use borrow.Author.Tests.{eq-eqb, ne-eqb}
-use Rattle.base.specs.Fault.{fault, unless, orElse}
-use Rattle.base.proofs.Firsts.{Clear, Spans, Section, section, Says, spans-unless, spans-or, spans-first, refusal-is-first, or-go, FirstFail, first-fails, unless-clear}
-use Rattle.acopf.specs.Factor.{firstNonFinite, networkFault}
-use Rattle.acopf.proofs.Order.{non-finite-spans, non-finite-place, network-spans}
+use Rattle.base.specs.Fault.{fault, unless, orElse, firstOf}
+use Rattle.base.specs.Order.{IsFirst}
+use Rattle.base.proofs.Firsts.{Clear, Spans, spans-unless, spans-or, spans-first, or-go, FirstFail, first-fails, unless-clear}
+use Rattle.base.proofs.Order.{AllGive, gives-one, give-append, first-append, refusal-is-first}
+use Rattle.acopf.specs.Factor.{firstNonFinite, networkSections, networkFault}
+use Rattle.acopf.proofs.Order.{non-finite-spans, non-finite-place, network-give}
 use Rattle.float.specs.Number.{isFinite}
 use Rattle.network.specs.Bounds.{angleRight}
 use Rattle.network.specs.Network.{buses, branches, columns, vaColumn}
 use Rattle.derived.specs.Outputs.{va, ownObjective, flows, outputs}
 use Rattle.derived.proofs.Outputs.{length-outputs}
-use Rattle.validate.specs.Check.{tolerances, Solved, solved, faultOutput, faultPoint, faultSwing, faultDerived, faultResidual, faultOf, checkFault}
+use Rattle.validate.specs.Check.{tolerances, Solved, solved, faultOutput, faultPoint, faultSwing, faultDerived, faultResidual, pointSections, checkSections, faultOf, checkFault}
 
 module _ (ws : List ℕ) (xs x : List Float) (solver : Float) where
   pub output-spans : (lent : ℕ) → Spans 12 12 (faultOutput ws xs x solver lent)
@@ -41,17 +43,23 @@ module _ (ws : List ℕ) (xs x : List Float) (solver : Float) where
   unfolding faultResidual
   residual-spans s = spans-first _ (λ i. spans-unless _ 16 _ (omega arith) (omega arith))
 
-  abbrev pub checkSections : ℕ → List Section
-  checkSections lent =
-      section 12 (faultOutput ws xs x solver lent) ∷ section 13 (faultPoint ws xs x solver) ∷ section 14 (faultSwing ws xs x solver)
-      ∷ section 15 (faultDerived ws xs x solver (solved ws xs x solver)) ∷ section 16 (faultResidual ws xs x solver (solved ws xs x solver)) ∷ []
+  point-give : (lent : ℕ) (s : Solved) → AllGive (pointSections ws xs x solver lent s)
+  point-give lent s =
+      (gives-one (output-spans lent), (gives-one point-spans, (gives-one swing-spans, (gives-one (derived-spans s), (gives-one (residual-spans s), tt)))))
 
   pub check-refusal : (lent : ℕ) → (Clear (checkFault ws xs x solver lent) → ⊥)
-      → Says (checkFault ws xs x solver lent) 0 (section 11 (networkFault ws xs)) (checkSections lent)
+      → IsFirst (checkFault ws xs x solver lent) (checkSections ws xs x solver lent (solved ws xs x solver))
   unfolding checkFault faultOf
   check-refusal lent c =
-      refusal-is-first 0 (section 11 (networkFault ws xs)) (checkSections lent)
-      (omega arith, network-spans ws xs, (omega arith, output-spans lent, (omega arith, point-spans, (omega arith, swing-spans, (omega arith, derived-spans _, (omega arith, residual-spans _)))))) c
+      let s = solved ws xs x solver in
+      refusal-is-first (checkSections ws xs x solver lent s)
+      (give-append (networkSections ws xs) (pointSections ws xs x solver lent s) (network-give ws xs) (point-give lent s)) refl c
+
+  -- the network's first, else the first of 12 to 16
+  pub check-is : (lent : ℕ) → checkFault ws xs x solver lent
+      ≡ orElse (networkFault ws xs) (firstOf (pointSections ws xs x solver lent (solved ws xs x solver)))
+  unfolding checkFault faultOf networkFault
+  check-is lent = first-append (networkSections ws xs) (pointSections ws xs x solver lent (solved ws xs x solver)) tt
 
   -- ---- the places
 

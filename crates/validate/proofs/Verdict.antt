@@ -2,7 +2,7 @@
 use mathlib.Core.Path.{_≡_, ap, sym, _∙_}
 use mathlib.Core.Bool.{not}
 use mathlib.Core.List.{List, [], _∷_, _++_}
-use Prim.Native.Nat.{ℕ, _+_, _*_, _≤_, _<_}
+use Prim.Native.Nat.{ℕ, _+_, _*_, _≤_}
 use native.Mathlib.Omega.{arith}
 use lib.ListN.{length, drop, getD}
 use lib.Ieee.{Float, nan, lt}
@@ -13,7 +13,7 @@ use Rattle.base.proofs.Firsts.{Clear, or-go, or-stop}
 use Rattle.float.specs.Number.{zero64}
 use Rattle.acopf.specs.Factor.{firstNonFinite, networkFault}
 use Rattle.validate.specs.declared.Checked.{Checked}
-use Rattle.validate.specs.Check.{tolerances, Solved, solved, faultOutput, faultPoint, faultSwing, faultDerived, faultResidual, faultOf, checkFault, checked, outputsAfter}
+use Rattle.validate.specs.Check.{tolerances, Solved, solved, faultOutput, faultPoint, faultSwing, faultDerived, faultResidual, checkFault, checked, outputsAfter}
 use Rattle.network.specs.Network.{buses, branches}
 use Rattle.derived.specs.Agree.{Agrees}
 use Rattle.derived.specs.Outputs.{pInjection, qInjection, ownObjective, flows, outputs}
@@ -21,7 +21,7 @@ use Rattle.residuals.specs.Residuals.{residuals}
 use Rattle.derived.specs.Scratch.{FlowsAre, listed}
 use Rattle.validate.specs.Verdict.{Cleared, Held, refusal}
 use Rattle.derived.proofs.Scratch.{listed-outputs}
-use Rattle.validate.proofs.Order.{derived-spans, residual-spans}
+use Rattle.validate.proofs.Order.{derived-spans, residual-spans, check-is}
 use Rattle.derived.proofs.Outputs.{length-outputs}
 
 -- 15 of the outputs and the two objectives
@@ -42,9 +42,9 @@ module _ (ws : List ℕ) (xs x : List Float) (solver : Float) where
   S = solved ws xs x solver
 
   -- a refusal f, of any number but 16
-  pub refused-is : (lent : ℕ) (f : Fault) → f ≡ checkFault ws xs x solver lent → (f .number ≡ 0 → ⊥) → f .number < 16 → refusal f ≡ checked ws xs x solver lent
+  pub refused-is : (lent : ℕ) (f : Fault) → f ≡ checkFault ws xs x solver lent → (f .number ≡ 0 → ⊥) → (f .number ≡ 16 → ⊥) → refusal f ≡ checked ws xs x solver lent
   unfolding checked checkFault
-  refused-is lent f e n l = rw (← e, ne-eqb (f .number) 0 n, ne-eqb (f .number) 16 (λ z. omega arith))
+  refused-is lent f e n l = rw (← e, ne-eqb (f .number) 0 n, ne-eqb (f .number) 16 l)
 
   pub list-kept : (before : List Float) (f : Fault) → f ≡ checkFault ws xs x solver (length before) → (f .number ≡ 0 → ⊥) → before ≡ outputsAfter ws xs x solver before
   list-kept before f e n = rw (← e, ne-eqb (f .number) 0 n)
@@ -53,28 +53,23 @@ module _ (ws : List ℕ) (xs x : List Float) (solver : Float) where
 
   module _ (lent : ℕ) where
     pub by-network : (Clear (networkFault ws xs) → ⊥) → networkFault ws xs ≡ checkFault ws xs x solver lent
-    unfolding checkFault faultOf
-    by-network n = sym (or-stop _ _ n)
+    by-network n = sym (check-is ws xs x solver lent ∙ or-stop _ _ n)
 
     pub by-output : Clear (networkFault ws xs) → (Clear (faultOutput ws xs x solver lent) → ⊥) → faultOutput ws xs x solver lent ≡ checkFault ws xs x solver lent
-    unfolding checkFault faultOf
-    by-output a n = sym (or-go _ _ a ∙ or-stop _ _ n)
+    by-output a n = sym (check-is ws xs x solver lent ∙ or-go _ _ a ∙ or-stop _ _ n)
 
     pub by-point : Clear (networkFault ws xs) → Clear (faultOutput ws xs x solver lent) → (Clear (faultPoint ws xs x solver) → ⊥) → faultPoint ws xs x solver ≡ checkFault ws xs x solver lent
-    unfolding checkFault faultOf
-    by-point a b n = sym (or-go _ _ a ∙ or-go _ _ b ∙ or-stop _ _ n)
+    by-point a b n = sym (check-is ws xs x solver lent ∙ or-go _ _ a ∙ or-go _ _ b ∙ or-stop _ _ n)
 
     pub by-swing : Clear (networkFault ws xs) → Clear (faultOutput ws xs x solver lent) → Clear (faultPoint ws xs x solver) → (Clear (faultSwing ws xs x solver) → ⊥)
         → faultSwing ws xs x solver ≡ checkFault ws xs x solver lent
-    unfolding checkFault faultOf
-    by-swing a b c n = sym (or-go _ _ a ∙ or-go _ _ b ∙ or-go _ _ c ∙ or-stop _ _ n)
+    by-swing a b c n = sym (check-is ws xs x solver lent ∙ or-go _ _ a ∙ or-go _ _ b ∙ or-go _ _ c ∙ or-stop _ _ n)
 
   -- ---- where they are clear
 
   module _ (lent : ℕ) (C : Cleared ws xs x solver lent) where
     rest : checkFault ws xs x solver lent ≡ orElse (faultDerived ws xs x solver S) (faultResidual ws xs x solver S)
-    unfolding checkFault faultOf
-    rest = or-go _ _ (C .network) ∙ or-go _ _ (C .output) ∙ or-go _ _ (C .point) ∙ or-go _ _ (C .swing)
+    rest = check-is ws xs x solver lent ∙ or-go _ _ (C .network) ∙ or-go _ _ (C .output) ∙ or-go _ _ (C .point) ∙ or-go _ _ (C .swing)
 
     pub by-derived : (Clear (faultDerived ws xs x solver S) → ⊥) → faultDerived ws xs x solver S ≡ checkFault ws xs x solver lent
     by-derived n = sym (rest ∙ or-stop _ _ n)
@@ -120,7 +115,7 @@ module _ {ws : List ℕ} {xs x : List Float} {n m : ℕ} {p q pf qf pt qt : List
       let refuses : Clear (faultDerived ws xs x solver (solved ws xs x solver)) → ⊥ = λ z. c (ap (λ f. f .number) derived ∙ z) in
       let k = derived ∙ by-derived ws xs x solver (length before) C refuses in
       let high = derived-spans ws xs x solver (solved ws xs x solver) .high refuses in
-      (e ∙ refused-is ws xs x solver (length before) d k c (omega (arith, ap (λ f. f .number) derived, high)), list-kept ws xs x solver before d k c)
+      (e ∙ refused-is ws xs x solver (length before) d k c (λ z. omega (arith, ap (λ f. f .number) derived, high)), list-kept ws xs x solver before d k c)
 
   -- 16
   pub says-16 : (f : Fault) (r : List Float) → d .number ≡ 0 → r ≡ residuals ws xs x (flows ws xs x) solver

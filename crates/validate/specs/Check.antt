@@ -6,11 +6,11 @@ use lib.ListN.{length, getD, replicate}
 use lib.Dec.{eqb, leb}
 use lib.Ieee.{Float, nan, binary64, ofBits, lt}
 use Rattle.base.specs.declared.Fault.{Fault}
-use Rattle.base.specs.Fault.{fault, unless, orElse, first, left}
+use Rattle.base.specs.Fault.{fault, unless, orElse, first, Section, section, firstOf, left}
 use Rattle.float.specs.Number.{zero64}
 use Rattle.network.specs.Network.{buses, branches, columns, vaColumn}
 use Rattle.network.specs.Bounds.{angleRight}
-use Rattle.acopf.specs.Factor.{firstNonFinite, networkFault}
+use Rattle.acopf.specs.Factor.{firstNonFinite, networkSections}
 use Rattle.validate.specs.declared.Checked.{Checked}
 use Rattle.derived.specs.Outputs.{va, flows, outputs, ownObjective}
 use Rattle.residuals.specs.Residuals.{residuals}
@@ -55,10 +55,18 @@ module _ (ws : List ℕ) (xs x : List Float) (solver : Float) where
   unfoldable pub faultResidual : Solved → Fault
   faultResidual s = first 8 (λ i. unless (not (lt (getD tolerances i nan) (getD (s .residuals) i nan))) (fault 16 (i + 1)))
 
+  -- 12 to 16 in their order
+  abbrev pub pointSections : ℕ → Solved → List Section
+  pointSections lent s =
+      section (12 ∷ []) (faultOutput lent) ∷ section (13 ∷ []) faultPoint ∷ section (14 ∷ []) faultSwing
+      ∷ section (15 ∷ []) (faultDerived s) ∷ section (16 ∷ []) (faultResidual s) ∷ []
+
   -- "check 1-16"
+  abbrev pub checkSections : ℕ → Solved → List Section
+  checkSections lent s = networkSections ws xs ++ pointSections lent s
+
   unfoldable pub faultOf : ℕ → Solved → Fault
-  faultOf lent s =
-      orElse (networkFault ws xs) (orElse (faultOutput lent) (orElse faultPoint (orElse faultSwing (orElse (faultDerived s) (faultResidual s)))))
+  faultOf lent s = firstOf (checkSections lent s)
 
   unfoldable pub checkFault : ℕ → Fault
   checkFault lent = faultOf lent solved
