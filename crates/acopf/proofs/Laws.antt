@@ -1,20 +1,92 @@
 -- What two of document 01's mistakes to rule out come to: the shift turned the same way at both ends, va clamped.
-use mathlib.Core.Path.{_≡_, refl}
+use mathlib.Core.Path.{_≡_, refl, sym, ap, _∙_}
 use mathlib.Core.Bool.{true}
-use mathlib.Core.List.{List}
+use mathlib.Core.List.{List, [], _∷_}
 use Prim.Native.Nat.{ℕ}
-use lib.Ieee.{Float}
-use Rattle.float.specs.Number.{isFinite}
+use lib.ListN.{getD}
+use lib.Ieee.{Float, nan, neg}
+use Rattle.float.specs.Number.{_⊕_, _⊖_, _⊗_, _⊘_, isFinite}
+use Rattle.float.proofs.Negated.{SignChanged, neg-neg, mul-neg, neg-mul, add-neg, sub-neg, neg-add, square-over}
+use Rattle.fdlibm.specs.Trig.{sine, cosine}
 use Rattle.network.specs.Bounds.{finiteOr}
-use Rattle.network.specs.Network.{vaGiven}
+use Rattle.network.specs.Network.{vaGiven, lineG, lineB, gFr, bFr, gTo, bTo, tap, shift}
 use Rattle.acopf.specs.Columns.{vaStart}
-use Rattle.acopf.specs.Flow.{Complex, conjugate, transferFrom, transferTo}
+use Rattle.acopf.specs.Flow.{Complex, conjugate, transferFrom, transferTo, coefficients, branchCoefficients}
 
--- the two ends see the shift turned opposite ways
+-- ---- the two ends see the shift turned opposite ways
+
+-- in the check: the to end's admittance is the from end's at the conjugate tap
 pub opposite : (y t : Complex) → transferFrom y t ≡ transferTo y (conjugate t)
 opposite y t = refl
 
--- va is not clamped
+-- in compile: of branch_flow's twelve coefficients, those of wr and wi in p_from and q_from, and in p_to and q_to
+abbrev pub fromEnd : List Float → List Float
+fromEnd k = getD k 1 nan ∷ getD k 2 nan ∷ getD k 4 nan ∷ getD k 5 nan ∷ []
+
+abbrev pub toEnd : List Float → List Float
+toEnd k = getD k 7 nan ∷ getD k 8 nan ∷ getD k 10 nan ∷ getD k 11 nan ∷ []
+
+-- the from end's by the shift's cosine c and sine s
+abbrev pub fromEndAt : (g b tap c s : Float) → List Float
+fromEndAt g b tap c s =
+    let tap² = tap ⊗ tap in
+    let tr = tap ⊗ c in
+    let ti = tap ⊗ s in
+    (neg g ⊗ tr ⊕ b ⊗ ti) ⊘ tap² ∷ (neg b ⊗ tr ⊖ g ⊗ ti) ⊘ tap² ∷ (b ⊗ tr ⊕ g ⊗ ti) ⊘ tap² ∷ (neg g ⊗ tr ⊕ b ⊗ ti) ⊘ tap² ∷ []
+
+-- u is v with the sign of wi changed: those of wr are equal bit for bit, those of wi v's negated, or +0 in both
+pub record WiChanged (u v : List Float) : Type 0 where
+  pub p-wr : getD u 0 nan ≡ getD v 0 nan
+  pub p-wi : SignChanged (getD u 1 nan) (getD v 1 nan)
+  pub q-wr : getD u 2 nan ≡ getD v 2 nan
+  pub q-wi : SignChanged (getD u 3 nan) (getD v 3 nan)
+
+turned-product : (b t s : Float) → b ⊗ (t ⊗ neg s) ≡ neg (b ⊗ (t ⊗ s))
+turned-product b t s = ap (λ x. b ⊗ x) (mul-neg t s) ∙ mul-neg b (t ⊗ s)
+
+turned-sum : (x b t s : Float) → x ⊖ b ⊗ (t ⊗ s) ≡ x ⊕ b ⊗ (t ⊗ neg s)
+turned-sum x b t s = sym (ap (λ y. x ⊕ y) (turned-product b t s) ∙ add-neg x (b ⊗ (t ⊗ s)))
+
+turned-p : (b r g t s : Float) → SignChanged (b ⊗ r ⊖ g ⊗ (t ⊗ s)) (neg b ⊗ r ⊖ g ⊗ (t ⊗ neg s))
+turned-p b r g t s =
+    let p = b ⊗ r in
+    let q = g ⊗ (t ⊗ s) in
+    rw (turned-product g t s, neg-mul b r, sub-neg (neg p) q) (rw (neg-neg p, add-neg p q) at (neg-add (neg p) q))
+
+turned-q : (g r b t s : Float) → SignChanged (g ⊗ r ⊕ b ⊗ (t ⊗ s)) (neg g ⊗ r ⊕ b ⊗ (t ⊗ neg s))
+turned-q g r b t s =
+    let p = g ⊗ r in
+    let q = b ⊗ (t ⊗ s) in
+    rw (turned-product b t s, neg-mul g r) (rw (neg-neg p, neg-neg q) at (neg-add (neg p) (neg q)))
+
+module _ (g b gfr bfr gto bto tap shift : Float) where
+  pub from-coefficients : fromEnd (coefficients g b gfr bfr gto bto tap shift) ≡ fromEndAt g b tap (cosine shift) (sine shift)
+  unfolding coefficients
+  from-coefficients = refl
+
+  -- the to end's are the from end's at the negated sine, with the sign of wi changed
+  pub opposite-coefficients : WiChanged (toEnd (coefficients g b gfr bfr gto bto tap shift)) (fromEndAt g b tap (cosine shift) (neg (sine shift)))
+  unfolding coefficients
+  opposite-coefficients =
+      let tr = tap ⊗ cosine shift in
+      let s = sine shift in
+      record {
+        p-wr = ap (λ x. x ⊘ (tap ⊗ tap)) (turned-sum (neg g ⊗ tr) b tap s);
+        p-wi = square-over _ _ tap (turned-p b tr g tap s);
+        q-wr = ap (λ x. x ⊘ (tap ⊗ tap)) (turned-sum (b ⊗ tr) g tap s);
+        q-wi = square-over _ _ tap (turned-q g tr b tap s);
+      }
+
+-- the same of a network's branch a
+module _ (ws : List ℕ) (xs : List Float) (a : ℕ) where
+  pub branch-from : fromEnd (branchCoefficients ws xs a) ≡ fromEndAt (lineG ws xs a) (lineB ws xs a) (tap ws xs a) (cosine (shift ws xs a)) (sine (shift ws xs a))
+  branch-from = from-coefficients (lineG ws xs a) (lineB ws xs a) (gFr ws xs a) (bFr ws xs a) (gTo ws xs a) (bTo ws xs a) (tap ws xs a) (shift ws xs a)
+
+  pub branch-opposite : WiChanged (toEnd (branchCoefficients ws xs a)) (fromEndAt (lineG ws xs a) (lineB ws xs a) (tap ws xs a) (cosine (shift ws xs a)) (neg (sine (shift ws xs a))))
+  branch-opposite = opposite-coefficients (lineG ws xs a) (lineB ws xs a) (gFr ws xs a) (bFr ws xs a) (gTo ws xs a) (bTo ws xs a) (tap ws xs a) (shift ws xs a)
+
+-- ---- va is not clamped
+
 pub va-kept : (ws : List ℕ) (xs : List Float) (i : ℕ) → isFinite (vaGiven ws xs i) ≡ true → vaStart ws xs i ≡ vaGiven ws xs i
 unfolding vaStart finiteOr
 va-kept ws xs i h = rw h

@@ -1,29 +1,33 @@
--- The counts in compile's answer are those of the lists, and 12 is said exactly where a lent list is short.
+-- The counts in compile's answer are those of the lists, 12 is said exactly where a lent list is short, and no words are needed exactly where the network is refused.
 use mathlib.Core.Path.{_≡_, refl, ap, sym, _∙_}
-use mathlib.Core.List.{List}
+use mathlib.Core.List.{List, [], _∷_, _++_}
 use mathlib.Core.Bool.{Bool, true, false, cond}
 use mathlib.Core.Logic.{_↔_}
 use Prim.Native.Nat.{ℕ, _+_, _≤_, _<_}
 use native.Mathlib.Omega.{arith}
 use native.Mathlib.Nat.{zero-add}
-use lib.ListN.{getD}
+use lib.ListN.{length, length-append, getD}
 use lib.Dec.{eqb, leb}
 use lib.Ieee.{Float}
 use borrow.Author.Tests.{leb-true, le-leb, eqb-true, eqb-false}
+use Rattle.base.specs.Word.{word}
 use Rattle.base.specs.Fault.{fault, clear}
 use Rattle.base.proofs.Firsts.{Clear, Proper, or-left, or-right, or-clear, unless-true, unless-clear, unless-proper, first-clear, all-clear, first-proper}
 use Rattle.base.proofs.Left.{left-front}
 use Rattle.base.proofs.Loops.{Every, every-nil, every-cons, all-at}
+use Rattle.nl.specs.Expr.{words}
+use Rattle.nl.specs.File.{partWords, atRows, atObjective, modelWords}
 use Rattle.acopf.specs.Columns.{columnLower, columnUpper, columnStart}
 use Rattle.acopf.specs.Rows.{rowLower, rowUpper}
-use Rattle.acopf.specs.Model.{fileWords}
+use Rattle.acopf.specs.Model.{model, fileWords}
 use Rattle.acopf.specs.Factor.{constants64, networkFault}
 use Rattle.acopf.proofs.Order.{network-proper}
 use Rattle.acopf.proofs.Counts.{lower-columns, upper-columns, start-columns, lower-rows, upper-rows, model-rows, length-shared, model-shared, count-constants}
 use Rattle.compile.specs.declared.Compiled.{Compiled}
-use Rattle.compile.specs.Compile.{lengths, faultShort, compileFault, refused, accepted, compiled}
+use Rattle.compile.specs.Compile.{lengths, faultShort, compileFault, refused, accepted, compiled, sized}
 use Rattle.compile.specs.Counted.{Counted, Suffice, Fronts}
 use Rattle.compile.proofs.Order.{compile-is}
+use Rattle.compile.proofs.Answer.{sized-accepted, sized-refused}
 
 -- the answer of one of two whose number is 0, where the other's is not
 answered : (P : Compiled → Type 0) (b : Bool) (full refused : Compiled) → P full → (b ≡ false → refused .number ≡ 0 → ⊥) → cond b full refused .number ≡ 0 → P (cond b full refused)
@@ -125,3 +129,34 @@ module _ (ws : List ℕ) (xs : List Float) where
           row-lower = λ before. left-front (compileFault ws xs lent) (rowLower ws xs) before _ c (n .row-lower);
           row-upper = λ before. left-front (compileFault ws xs lent) (rowUpper ws xs) before _ c (n .row-upper);
         }
+
+  -- ---- what a host is told before it lends lists
+
+  -- the numbers are those of the answer, where that refuses nothing
+  pub told : (lent : List ℕ) → compiled ws xs lent .number ≡ 0 → compiled ws xs lent ≡ sized ws xs
+  unfolding compiled refused
+  told lent e =
+      let clear-network = ap (λ f. f .number) (compiled-exactly lent .0 e .0) in
+      answered (λ c. c ≡ accepted ws xs) (eqb (compileFault ws xs lent .number) 0) _ _ refl (eqb-false (compileFault ws xs lent .number) 0) e
+      ∙ sized-accepted ws xs refl refl clear-network
+
+  -- a file has at least its last word
+  pub words-some : 0 < length (fileWords ws xs)
+  unfolding fileWords modelWords
+  words-some =
+      let M = model ws xs in
+      let a = partWords 10 0 0 (M .shared) in
+      let b = partWords 11 0 (atRows M) (M .rows) in
+      let c = word 12 0 ∷ words (atObjective M) (M .objective) ++ (word 13 0 ∷ []) in
+      let l = length-append a (b ++ c) in
+      let k = length-append b c in
+      omega (arith, l, k)
+
+  -- so that 0 is said exactly of a network that 1 to 11 refuse
+  pub words-exactly : (sized ws xs .words ≡ 0) ↔ ¬ (networkFault ws xs ≡ clear)
+  unfolding accepted refused
+  words-exactly = (
+    λ e k. let z : length (fileWords ws xs) ≡ 0 = ap (λ c. c .words) (sized-accepted ws xs refl refl (ap (λ f. f .number) k)) ∙ e in
+        omega (arith, z, words-some),
+    λ n. sym (ap (λ c. c .words) (sized-refused ws xs refl refl (λ c. n (network-proper ws xs c)))),
+  )

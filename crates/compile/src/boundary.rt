@@ -4,6 +4,7 @@ use crate::model::compile;
 use base::Fault;
 ghost use mathlib.Core.Path.{_≡_};
 ghost use Rattle.base.specs.Fault.{fault, packed};
+ghost use Rattle.float.specs.Doubles.{Doubles};
 ghost use Rattle.compile.specs.Compile.{compiled, sized};
 ghost use Rattle.compile.specs.Lists.{lists, lent, Held};
 
@@ -24,7 +25,8 @@ pub extern "C" fn compile_model(
         (lent (lists (now («model_words» .entry)) (now (constants .entry)) (now («column_lower» .entry)) (now («column_upper» .entry)) (now (start .entry)) (now («row_lower» .entry)) (now («row_upper» .entry)))) .number) (compiled (now (words .entry)) (now (numbers .entry)) (lent (lists (now («model_words» .entry)) (now (constants .entry)) (now («column_lower» .entry)) (now («column_upper» .entry)) (now (start .entry)) (now («row_lower» .entry)) (now («row_upper» .entry)))) .place)))
         × Held (now (words .entry)) (now (numbers .entry))
         (lists (now («model_words» .entry)) (now (constants .entry)) (now («column_lower» .entry)) (now («column_upper» .entry)) (now (start .entry)) (now («row_lower» .entry)) (now («row_upper» .entry)))
-        (lists (now («model_words» .exit)) (now (constants .exit)) (now («column_lower» .exit)) (now («column_upper» .exit)) (now (start .exit)) (now («row_lower» .exit)) (now («row_upper» .exit))) ⌝ }
+        (lists (now («model_words» .exit)) (now (constants .exit)) (now («column_lower» .exit)) (now («column_upper» .exit)) (now (start .exit)) (now («row_lower» .exit)) (now («row_upper» .exit)))
+        × Doubles (now (numbers .entry)) ⌝ }
 {
     let answer = compile(
         words,

@@ -9,6 +9,7 @@ use network::sizes_of;
 use rows::write_row_lower;
 use rows::write_row_upper;
 ghost use mathlib.Core.Path.{_≡_};
+ghost use Rattle.float.specs.Doubles.{Doubles};
 ghost use Rattle.compile.specs.Compile.{compiled};
 ghost use Rattle.compile.specs.Lists.{lists, lent, Held};
 
@@ -28,7 +29,8 @@ pub fn compile(
         (lent (lists (now («model_words» .entry)) (now (constants .entry)) (now («column_lower» .entry)) (now («column_upper» .entry)) (now (start .entry)) (now («row_lower» .entry)) (now («row_upper» .entry)))))
         × Held (now (words .entry)) (now (numbers .entry))
         (lists (now («model_words» .entry)) (now (constants .entry)) (now («column_lower» .entry)) (now («column_upper» .entry)) (now (start .entry)) (now («row_lower» .entry)) (now («row_upper» .entry)))
-        (lists (now («model_words» .exit)) (now (constants .exit)) (now («column_lower» .exit)) (now («column_upper» .exit)) (now (start .exit)) (now («row_lower» .exit)) (now («row_upper» .exit))) ⌝ }
+        (lists (now («model_words» .exit)) (now (constants .exit)) (now («column_lower» .exit)) (now («column_upper» .exit)) (now (start .exit)) (now («row_lower» .exit)) (now («row_upper» .exit)))
+        × Doubles (now (numbers .entry)) ⌝ }
 {
     let answer = decided(
         words,

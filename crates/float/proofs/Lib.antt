@@ -4,3 +4,4 @@ pub mod Signs
 pub mod Values
 pub mod Patterns
 pub mod Finite
+pub mod Negated

@@ -32,7 +32,10 @@ same-length-7 : tie.Need-same-length-7
 same-length-7 c = search needs
 
 returns : tie.Need-returns
-returns c = (c .packed .ensures ∙ ap (λ a. packed (fault (a .number) (a .place))) (c .before .before .before .before .before .before .before .before .before .before .before .before .before .before .before .compile .ensures .0), c .before .before .before .before .before .before .before .before .before .before .before .before .before .before .before .compile .ensures .1)
+returns c =
+    let packed-is = c .packed .ensures ∙ ap (λ a. packed (fault (a .number) (a .place))) (c .before .before .before .before .before .before .before .before .before .before .before .before .before .before .before .compile .ensures .0) in
+    let is = c .before .before .before .before .before .before .before .before .before .before .before .before .before .before .before .compile .ensures in
+    (packed-is, is .1, is .2)
 
 pub compile-model-spec : {M : Type 1} → statement M
 compile-model-spec =

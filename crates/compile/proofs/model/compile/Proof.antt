@@ -28,6 +28,7 @@ returns c =
         row-lower = as-it-was _ _ _ is (rowLower ws xs) (s .row-lower .now) no;
         row-upper = as-it-was _ _ _ is (rowUpper ws xs) (s .row-upper .now) no;
       },
+      c .before .before .before .before .before .before .before .before .before .before .shared-slice-known2 .given,
     )
 
 sizes-of-requires : tie.Need-sizes-of-requires
@@ -117,6 +118,7 @@ returns-2 c =
         row-lower = as-written _ _ _ is (rowLower ws xs) (s .row-lower .now) yes (c .before .before .before .before .before .before .write-row-lower .ensures);
         row-upper = as-written _ _ _ is (rowUpper ws xs) (s .row-upper .now) yes (c .before .before .write-row-upper .ensures);
       },
+      c .before .before .before .before .before .before .before .before .before .before .before .before .before .before .before .before .before .before .before .before .before .before .before .before .before .before .before .before .before .before .before .before .before .before .before .before .before .before .shared-slice-known2 .given,
     )
 
 pub compile-spec : {M : Type 1} → statement M
