@@ -1,6 +1,7 @@
 /*
  * Calls every function of include/fervoulk.h on document 01's Depot M, on refused cases and on empty lists, and holds answers and lists to
- * what the document gives. Lists are longer than their results, with guard values that must stay.
+ * what the document gives. Lists are longer than their results, full of guard values that must stay: in a list of numbers these are NaNs,
+ * each with bits of its own, and lists are compared by their bits.
  */
 #include "fervoulk.h"
 
@@ -33,6 +34,23 @@ static int same_bits(double a, double b) {
     return memcmp(&a, &b, sizeof a) == 0;
 }
 
+static int same_list(const double *a, const double *b, size_t length) {
+    return memcmp(a, b, length * sizeof *a) == 0;
+}
+
+/*
+ * NaNs numbered from `first` on: both signs, quiet and signalling, each with a payload of its own. A list that was written with another NaN
+ * is seen, which a proof about values cannot tell from one that was left alone.
+ */
+static void fill_nans(double *list, size_t length, size_t first) {
+    for (size_t i = 0; i < length; i++) {
+        const uint64_t n = first + i;
+        const uint64_t payload = (n + 1) * UINT64_C(0x9E3779B97F4A7C15) & ((UINT64_C(1) << 51) - 1);
+        const uint64_t bits = n % 2 << 63 | UINT64_C(0x7FF) << 52 | n / 2 % 2 << 51 | payload;
+        memcpy(&list[i], &bits, sizeof bits);
+    }
+}
+
 /* Depot M */
 static const uint32_t words[] = {0x10000001, 0x20000001, 0x30001000, 0x50000000};
 static const uint32_t inactive[] = {0x10000001, 0x20000001, 0x30000000, 0x50000000};
@@ -60,6 +78,23 @@ static void test_answers(void) {
     EXPECT(strcmp(fervoulk_word(FERVOULK_ROW), "row") == 0);
     EXPECT(strcmp(fervoulk_word(0), "") == 0);
     EXPECT(strcmp(fervoulk_word(19), "") == 0);
+}
+
+/* ---- the guard values */
+
+static void test_nans(void) {
+    double list[64];
+    fill_nans(LIST(list), 0);
+    for (size_t i = 0; i < LENGTH(list); i++) {
+        uint64_t bits;
+        memcpy(&bits, &list[i], sizeof bits);
+        EXPECT(isnan(list[i]));
+        EXPECT(bits >> 63 == i % 2);
+        EXPECT((bits >> 51 & 1) == i / 2 % 2);
+        for (size_t j = 0; j < i; j++) {
+            EXPECT(!same_bits(list[i], list[j]));
+        }
+    }
 }
 
 /* ---- the finder */
@@ -107,15 +142,17 @@ static void test_same(void) {
 
 /* ---- the check */
 
-/* a point's answer by all three functions, with 3 numbers lent of which an accepted point writes 2 */
+/* a point's answer by all three functions, with 9 numbers lent of which an accepted point writes 2 */
 static void expect_check(
     const uint32_t *w, const double *x, const double *p, size_t columns, double solver, uint32_t number, uint32_t place,
     double objective, size_t residual, double violation, int line) {
-    double outputs[] = {7, 7, 7};
-    const double front = number == 0 ? 0 : 7;
+    double outputs[9], after[9];
     for (size_t call = 0; call < 11; call++) {
-        for (size_t i = 0; i < LENGTH(outputs); i++) {
-            outputs[i] = 7;
+        fill_nans(LIST(outputs), 16 * call);
+        fill_nans(LIST(after), 16 * call);
+        if (number == 0) {
+            after[0] = 0;
+            after[1] = 0;
         }
         if (call == 0) {
             const uint64_t answer = validate_check(w, 4, x, 17, p, columns, solver, LIST(outputs));
@@ -127,9 +164,8 @@ static void expect_check(
             const double is = validate_residual(w, 4, x, 17, p, columns, solver, LIST(outputs), i);
             expect(same_bits(is, i == residual ? violation : 0), "validate_residual", line);
         }
-        expect(same_bits(outputs[0], front), "first output", line);
-        expect(same_bits(outputs[1], front), "second output", line);
-        expect(same_bits(outputs[2], 7), "behind the outputs", line);
+        expect(same_list(outputs, after, 2), "the two outputs", line);
+        expect(same_list(outputs + 2, after + 2, LENGTH(after) - 2), "behind the outputs", line);
     }
 }
 
@@ -148,9 +184,10 @@ static void test_check(void) {
 }
 
 static void test_check_lists(void) {
-    double outputs[] = {7, 7};
+    double outputs[8], before[8];
+    fill_nans(LIST(outputs), 0);
+    fill_nans(LIST(before), 0);
     EXPECT(refused(validate_check(NETWORK, LIST(point), 8, outputs, 1), FERVOULK_SHORT, 1));
-    EXPECT(same_bits(outputs[0], 7) && same_bits(outputs[1], 7));
     EXPECT(refused(validate_check(NETWORK, LIST(point), 8, NULL, 0), FERVOULK_SHORT, 1));
     EXPECT(refused(validate_check(NETWORK, NULL, 0, 8, LIST(outputs)), FERVOULK_POINT, 4));
     EXPECT(refused(validate_check(LIST(words), NULL, 0, LIST(point), 8, LIST(outputs)), FERVOULK_COUNT, 17));
@@ -158,7 +195,10 @@ static void test_check_lists(void) {
     EXPECT(refused(validate_check(NULL, 0, NULL, 0, NULL, 0, 8, NULL, 0), FERVOULK_WORDS, 0));
     EXPECT(same_bits(validate_objective(NULL, 0, NULL, 0, NULL, 0, 8, NULL, 0), 0));
     EXPECT(same_bits(validate_residual(NULL, 0, NULL, 0, NULL, 0, 8, NULL, 0, 0), 0));
+    EXPECT(same_list(outputs, before, LENGTH(before)));
     EXPECT(same_bits(validate_residual(NETWORK, LIST(point), 8, LIST(outputs), SIZE_MAX), 0));
+    EXPECT(same_bits(outputs[0], 0) && same_bits(outputs[1], 0));
+    EXPECT(same_list(outputs + 2, before + 2, LENGTH(before) - 2));
 }
 
 /* ---- compile */
@@ -175,9 +215,9 @@ struct lent {
 static void fill(struct lent *l) {
     for (size_t i = 0; i < LENT; i++) {
         l->words[i] = GUARD;
-        for (size_t list = 0; list < 6; list++) {
-            l->numbers[list][i] = 7;
-        }
+    }
+    for (size_t list = 0; list < 6; list++) {
+        fill_nans(LIST(l->numbers[list]), list * LENT);
     }
 }
 
@@ -281,6 +321,7 @@ static void test_compile_refused(void) {
 
 int main(void) {
     test_answers();
+    test_nans();
     test_find_row();
     test_same();
     test_check();

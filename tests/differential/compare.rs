@@ -24,9 +24,14 @@ pub struct Tally {
     short_check: u64,
 }
 
-const GUARD: u64 = 0xfff4_5a5a_0000_0000;
+/// The bits of NaN number i: both signs, quiet and signalling, each with a payload of its own.
+fn nan(i: usize) -> u64 {
+    let n = i as u64;
+    let payload = (n + 1).wrapping_mul(0x9e37_79b9_7f4a_7c15) & ((1 << 51) - 1);
+    (n % 2) << 63 | 0x7ff << 52 | (n / 2 % 2) << 51 | payload
+}
 
-/// A list between guards. Each number has its own pattern, so that a moved one is seen.
+/// A list between guards, full of NaNs. Each has its own pattern, so that a moved one is seen, and one written as another NaN.
 pub struct Lent {
     cells: Vec<u64>,
     length: usize,
@@ -36,7 +41,7 @@ const GUARDS: usize = 4;
 
 impl Lent {
     pub fn new(length: usize) -> Self {
-        let cells = (0..length + 2 * GUARDS).map(|i| GUARD + i as u64).collect();
+        let cells = (0..length + 2 * GUARDS).map(nan).collect();
         Self { cells, length }
     }
 
@@ -54,8 +59,8 @@ impl Lent {
                 .iter()
                 .zip(front)
                 .all(|(cell, value)| *cell == value.to_bits());
-        let kept = |i: &usize| self.cells[*i] == GUARD + *i as u64;
-        front_right && (0..GUARDS).all(|i| kept(&i)) && (end..self.cells.len()).all(|i| kept(&i))
+        let kept = |i: usize| self.cells[i] == nan(i);
+        front_right && (0..GUARDS).all(kept) && (end..self.cells.len()).all(kept)
     }
 }
 

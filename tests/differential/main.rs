@@ -4,8 +4,9 @@
 //!
 //! Of each case: the check's number and place, the objective and the eight residuals by bits, the output list lent with one number too
 //! few, as many as needed and three more, with guard numbers around it; compile's number and place, its seven lists by bits, its
-//! counts and objective constant, each list lent short, long enough and longer, with guards. 1 to 6 and 12 are held to document 01
-//! (rules.rs), the rest to the text (answers.rs). NaN is one NaN, and the zeros that `f64::max` leaves open are counted apart.
+//! counts and objective constant, each list lent short, long enough and longer, with guards. Lent lists are full of NaNs of many payloads
+//! and compared by bits. 1 to 6 and 12 are held to document 01 (rules.rs), the rest to the text (answers.rs). A NaN in an answer is one
+//! NaN, and the zeros that `f64::max` leaves open are counted apart.
 
 #[allow(dead_code)]
 #[path = "../oracle/answers.rs"]

@@ -1,0 +1,117 @@
+//! What lent lists hold after a call, by bits: all as it was after a refusal, all behind the result as it was where there is one.
+//!
+//! The lists are full of NaNs, each with bits of its own. A list that was written with another NaN is seen, which a proof about values
+//! cannot tell from one that was left alone.
+
+#[allow(dead_code)]
+#[path = "../src/boundary/mod.rs"]
+mod boundary;
+#[allow(dead_code)]
+mod depot;
+
+use boundary::compile::{compile_model, Lists};
+use boundary::validate::{validate_check, validate_objective, validate_residual};
+use depot::{crossed, CONSTANTS, FILE, INACTIVE, NUMBERS, WORDS};
+
+const POINT: [f64; 4] = [0.0, 1.0, 1.0, 0.25];
+const LENT: usize = 64;
+
+/// The bits of NaN number n: both signs, quiet and signalling, each with a payload of its own.
+fn nan_bits(n: u64) -> u64 {
+    let payload = (n + 1).wrapping_mul(0x9e37_79b9_7f4a_7c15) & ((1 << 51) - 1);
+    (n % 2) << 63 | 0x7ff << 52 | (n / 2 % 2) << 51 | payload
+}
+
+fn nans(length: usize) -> Vec<f64> {
+    (0..length as u64).map(|n| f64::from_bits(nan_bits(n))).collect()
+}
+
+/// The front is these numbers, and the rest as `nans` made it.
+fn holds(list: &[f64], front: &[f64]) -> bool {
+    let (written, rest) = list.split_at(front.len());
+    written.iter().zip(front).all(|(a, b)| a.to_bits() == b.to_bits())
+        && rest.iter().zip(front.len() as u64..).all(|(x, n)| x.to_bits() == nan_bits(n))
+}
+
+#[test]
+fn nans_of_all_kinds() {
+    let mut all: Vec<u64> = nans(LENT).iter().map(|x| x.to_bits()).collect();
+    for kind in [0x7ff0, 0x7ff8, 0xfff0, 0xfff8] {
+        assert_eq!(all.iter().filter(|&&bits| bits >> 48 & 0xfff8 == kind).count(), LENT / 4);
+    }
+    assert!(nans(LENT).iter().all(|x| x.is_nan()));
+    all.sort();
+    all.dedup();
+    assert_eq!(all.len(), LENT);
+}
+
+/// The check by each of its functions: the packed answer, and what the list then has in front.
+fn checked(words: &[u32], numbers: &[f64], point: &[f64], solver: f64, length: usize, front: &[f64]) -> u64 {
+    let mut outputs = nans(length);
+    let answer = validate_check(words, numbers, point, solver, &mut outputs);
+    assert!(holds(&outputs, front), "validate_check");
+    let mut outputs = nans(length);
+    validate_objective(words, numbers, point, solver, &mut outputs);
+    assert!(holds(&outputs, front), "validate_objective");
+    for i in 0..9 {
+        let mut outputs = nans(length);
+        validate_residual(words, numbers, point, solver, &mut outputs, i);
+        assert!(holds(&outputs, front), "validate_residual {i}");
+    }
+    answer
+}
+
+fn packed(number: u64, place: u64) -> u64 {
+    number << 32 | place
+}
+
+#[test]
+fn outputs() {
+    assert_eq!(checked(&WORDS, &NUMBERS, &POINT, 8.0, LENT, &[0.0, 0.0]), 0);
+    assert_eq!(checked(&WORDS, &NUMBERS, &POINT, 8.0, 2, &[0.0, 0.0]), 0);
+    assert_eq!(checked(&INACTIVE, &crossed(), &POINT, 8.0, LENT, &[0.0, 0.0]), 0);
+    assert_eq!(checked(&[], &NUMBERS, &POINT, 8.0, LENT, &[]), packed(1, 0));
+    assert_eq!(checked(&WORDS, &[], &POINT, 8.0, LENT, &[]), packed(3, 17));
+    assert_eq!(checked(&WORDS, &crossed(), &POINT, 8.0, LENT, &[]), packed(7, 2));
+    assert_eq!(checked(&WORDS, &NUMBERS, &POINT, 8.0, 1, &[]), packed(12, 1));
+    assert_eq!(checked(&WORDS, &NUMBERS, &POINT[..3], 8.0, LENT, &[]), packed(13, 4));
+    assert_eq!(checked(&WORDS, &NUMBERS, &[1025.0, 1.0, 1.0, 0.25], 8.0, LENT, &[]), packed(14, 0));
+    assert_eq!(checked(&WORDS, &NUMBERS, &POINT, f64::INFINITY, LENT, &[]), packed(15, 2));
+    assert_eq!(checked(&WORDS, &NUMBERS, &[0.0, 1.0, 1.5, 0.25], 10.75, LENT, &[]), packed(16, 1));
+}
+
+const GUARD: u32 = 0xfedc_ba98;
+
+/// compile into lists of these lengths: the packed answer; whether all is as it was; whether the front is Depot M's model.
+fn compiled(words: &[u32], numbers: &[f64], lengths: [usize; 7]) -> (u64, bool, bool) {
+    let mut file = vec![GUARD; lengths[0]];
+    let mut lists: Vec<Vec<f64>> = lengths[1..].iter().map(|&length| nans(length)).collect();
+    let [constants, column_lower, column_upper, start, row_lower, row_upper] = &mut lists[..] else { unreachable!() };
+    let lent = Lists { words: &mut file, constants, column_lower, column_upper, start, row_lower, row_upper };
+    let answer = compile_model(words, numbers, lent);
+    let same = file.iter().all(|&word| word == GUARD) && lists.iter().all(|list| holds(list, &[]));
+    let fronts: [&[f64]; 6] =
+        [&CONSTANTS, &[-1e19, 0.9, 0.0, -1.0], &[1e19, 1.1, 2.0, 1.0], &[0.0, 1.0, 1.0, 0.25], &[0.0, 0.0, 0.0], &[0.0, 0.0, 0.0]];
+    let model = file.starts_with(&FILE)
+        && file[FILE.len()..].iter().all(|&word| word == GUARD)
+        && lists.iter().zip(fronts).all(|(list, front)| list.len() >= front.len() && holds(list, front));
+    (answer, same, model)
+}
+
+#[test]
+fn lists_of_compile() {
+    let exact = [29, 6, 4, 4, 4, 3, 3];
+    assert_eq!(compiled(&WORDS, &NUMBERS, [LENT; 7]), (0, false, true));
+    assert_eq!(compiled(&WORDS, &NUMBERS, exact), (0, false, true));
+    assert_eq!(compiled(&[], &NUMBERS, [LENT; 7]), (packed(1, 0), true, false));
+    assert_eq!(compiled(&WORDS, &[], [LENT; 7]), (packed(3, 17), true, false));
+    assert_eq!(compiled(&WORDS, &crossed(), [LENT; 7]), (packed(7, 2), true, false));
+    for list in 0..7 {
+        let mut lengths = exact;
+        lengths[list] -= 1;
+        assert_eq!(compiled(&WORDS, &NUMBERS, lengths), (packed(12, list as u64 + 1), true, false));
+        let mut lengths = [LENT; 7];
+        lengths[list] = 0;
+        assert_eq!(compiled(&WORDS, &NUMBERS, lengths), (packed(12, list as u64 + 1), true, false));
+    }
+}
