@@ -1,76 +1,29 @@
 -- The model's pieces as tokens over the numbers that the code holds.
-use Prim.Native.Nat.{ℕ, suc, _+_, _-_, _*_, _≤_, _<_}
+use Prim.Native.Nat.{ℕ, _+_, _-_, _*_, _≤_, _<_}
 use native.Mathlib.Nat.{add-zero}
 use native.Mathlib.Omega.{arith}
-use mathlib.Core.Path.{_≡_, refl, ap₂, _∙_}
-use mathlib.Core.Bool.{Bool, true, false, cond, not, _&&_}
-use mathlib.Core.List.{List, [], _∷_, _++_, append-nil}
-use lib.ListN.{length, getD, length-append}
+use mathlib.Core.Path.{_≡_, refl}
+use mathlib.Core.Bool.{Bool, cond, not, _&&_}
+use mathlib.Core.List.{List}
+use lib.ListN.{length, getD}
 use lib.Dec.{eqb}
-use lib.Ieee.{Float, nan, neg, lt}
-use Rattle.base.specs.Loop.{each, keep, tally}
-use Rattle.base.proofs.Loops.{bit, length-keep, length-kept}
-use Rattle.base.proofs.Totals.{total-same, total-sum, total-tally, length-turns}
-use Rattle.float.specs.Number.{one64, zero64, half64, _⊗_}
-use Rattle.nl.specs.Expr.{Expr, column, shared, count}
-use Rattle.network.specs.Network.{buses, generators, branches, generatorAt, branchAt, points, costs, epigraphsBefore, pD, qD, gS, bS}
+use lib.Ieee.{Float, nan, lt}
+use Rattle.base.specs.Loop.{each}
+use Rattle.float.specs.Number.{zero64, half64, _⊗_}
+use Rattle.nl.specs.Expr.{column, count}
+use Rattle.network.specs.Network.{buses, generators, branches, generatorAt, branchAt, points, costs, epigraphsBefore}
 use Rattle.network.specs.Word.{generatorPoints, branchFrom, branchTo, branchLimited}
 use Rattle.network.specs.declared.sizes.Sizes.{Sizes}
 use Rattle.network.proofs.Good.{generator-start, generator-fits}
-use Rattle.acopf.specs.Build.{terms, scaled}
 use Rattle.acopf.specs.Leaf.{coefficientsAt}
 use Rattle.acopf.specs.Model.{costTerm}
 use Rattle.acopf.specs.Parts.{branchParts}
-use Rattle.acopf.specs.Rows.{balanceRow, pBalance, qBalance}
-use Rattle.acopf.proofs.Counts.{count-terms}
 use Rattle.acopf.proofs.Leaves.{coefficients-at}
-use Rattle.emit.specs.Tokens.{tokensOf, listTokens, partTokens}
+use Rattle.emit.specs.Tokens.{partTokens}
 use Rattle.emit.specs.Sized.{Sized}
 use Rattle.emit.specs.Parts.{allParts}
-use Rattle.emit.specs.Balance.{atBus, balanceTokens}
 use Rattle.emit.specs.Rows.{thermalPair, thermalTokens, segmentTokens, curveTokens}
 use Rattle.emit.specs.Objective.{costOf}
-use Rattle.emit.proofs.Tokens.{list-append, list-each, list-terms}
-
--- ---- balance rows
-
-length-kept-two : {A : Type 0} (n : ℕ) (t u : ℕ → Bool) (e d : ℕ → A) → length (each n (λ i. keep (t i) (e i) ++ keep (u i) (d i))) ≡ tally n t + tally n u
-length-kept-two n t u e d =
-    length-turns n (λ i. keep (t i) (e i) ++ keep (u i) (d i))
-    ∙ total-same n _ (λ i. bit (t i) + bit (u i)) (λ i l. length-append (keep (t i) (e i)) (keep (u i) (d i)) ∙ ap₂ (λ x y. x + y) (length-keep (t i) (e i)) (length-keep (u i) (d i)))
-    ∙ total-sum n (λ i. bit (t i)) (λ i. bit (u i))
-    ∙ ap₂ (λ x y. x + y) (total-tally n t) (total-tally n u)
-
-balance-is : (ws : List ℕ) (xs : List Float) (i : ℕ) (demand shunt : Float) (c j : ℕ)
-    → partTokens 11 (balanceRow ws xs i demand shunt (λ g. c + g) (λ b. shared (buses ws + 8 * b + j)) (λ b. shared (buses ws + 8 * b + (j + 2))) .expression ∷ [])
-    ≡ balanceTokens ws (buses ws) (generators ws) (branches ws) i demand shunt c j
-unfolding balanceRow balanceTokens
-balance-is ws xs i demand shunt c j =
-    let n = buses ws in
-    let k = generators ws in
-    let m = branches ws in
-    let f : ℕ → List Expr = λ g. keep (atBus ws false (1 + n) i g) (column (c + g)) in
-    let h : ℕ → List Expr = λ b. keep (atBus ws false (1 + n + k) i b) (scaled (neg one64) (shared (n + 8 * b + j))) ++ keep (atBus ws true (1 + n + k) i b) (scaled (neg one64) (shared (n + 8 * b + (j + 2)))) in
-    let load : suc (suc (count (terms (each k f ++ each m h)))) ≡ 2 + tally k (atBus ws false (1 + n) i) + tally m (atBus ws false (1 + n + k) i) + tally m (atBus ws true (1 + n + k) i) =
-    omega (
-      arith,
-      count-terms (each k f ++ each m h),
-      length-append (each k f) (each m h),
-      length-kept k (atBus ws false (1 + n) i) (λ g. column (c + g)),
-      length-kept-two m (atBus ws false (1 + n + k) i) (atBus ws true (1 + n + k) i) (λ b. scaled (neg one64) (shared (n + 8 * b + j))) (λ b. scaled (neg one64) (shared (n + 8 * b + (j + 2)))),
-    ) in
-    let rest : tokensOf (terms (each k f ++ each m h)) ++ [] ≡ each k (λ g. listTokens (f g)) ++ each m (λ b. listTokens (h b)) =
-    append-nil _ ∙ list-terms (each k f ++ each m h) ∙ list-append (each k f) (each m h) ∙ rw (list-each k f, list-each m h) in
-    rw (load, rest)
-
-module _ (ws : List ℕ) (xs : List Float) (i : ℕ) {n k m : ℕ} (en : n ≡ buses ws) (ek : k ≡ generators ws) (em : m ≡ branches ws) where
-  pub p-balance : partTokens 11 (pBalance ws xs i .expression ∷ []) ≡ balanceTokens ws n k m i (neg (pD ws xs i)) (neg (gS ws xs i)) (2 * n) 4
-  unfolding pBalance
-  p-balance = rw (en, ek, em) (balance-is ws xs i (neg (pD ws xs i)) (neg (gS ws xs i)) (2 * buses ws) 4)
-
-  pub q-balance : partTokens 11 (qBalance ws xs i .expression ∷ []) ≡ balanceTokens ws n k m i (neg (qD ws xs i)) (bS ws xs i) (2 * n + k) 5
-  unfolding qBalance
-  q-balance = rw (en, ek, em) (balance-is ws xs i (neg (qD ws xs i)) (bS ws xs i) (2 * buses ws + generators ws) 5)
 
 -- ---- places of numbers
 

@@ -17,9 +17,9 @@ use Rattle.base.specs.Word.{word}
 use Rattle.nl.specs.Expr.{Expr, Terms, none, more, constant, column, shared, over, count, loadFor, words, wordsOf, constants, constantsOf, next}
 use Rattle.nl.specs.File.{partWords}
 use Rattle.acopf.specs.Build.{terms}
-use Rattle.emit.specs.declared.pen.Pen.{Pen}
+use Rattle.emit.specs.declared.writer.Writer.{Writer}
 use Rattle.base.specs.Section.{Wrote}
-use Rattle.emit.specs.Tokens.{Token, fixed, numbered, begins, wordsFrom, numbersOf, begun, tokens, tokensOf, listTokens, partTokens, throughBits, Penned, Room}
+use Rattle.emit.specs.Tokens.{Token, fixed, numbered, begins, wordsFrom, numbersOf, begun, tokens, tokensOf, listTokens, partTokens, throughBits, Written, Room}
 use Rattle.base.proofs.Sections.{then, wrote-none}
 
 -- ---- tokens of a list
@@ -54,11 +54,11 @@ words-append k i (begins x ∷ u) v =
 
 -- ---- writers one after the other
 
-pub penned-none : (w : List ℕ) (c : List Float) (p : Pen) → Penned w c p [] w c p
-penned-none w c p = record { words = wrote-none w (p .word); numbers = wrote-none c (p .constant); parts = sym (add-zero _) }
+pub written-none : (w : List ℕ) (c : List Float) (p : Writer) → Written w c p [] w c p
+written-none w c p = record { words = wrote-none w (p .word); numbers = wrote-none c (p .constant); parts = sym (add-zero _) }
 
-pub pen-then : {w m w′ : List ℕ} {c n c′ : List Float} {p q p′ : Pen} {u v : List Token} → Penned w c p u m n q → Penned m n q v w′ c′ p′ → Penned w c p (u ++ v) w′ c′ p′
-pen-then {w} {m} {w′} {c} {n} {c′} {p} {q} {p′} {u} {v} a b = record {
+pub written-then : {w m w′ : List ℕ} {c n c′ : List Float} {p q p′ : Writer} {u v : List Token} → Written w c p u m n q → Written m n q v w′ c′ p′ → Written w c p (u ++ v) w′ c′ p′
+written-then {w} {m} {w′} {c} {n} {c′} {p} {q} {p′} {u} {v} a b = record {
   words = subst (λ (l : List ℕ). Wrote w (p .word) l w′ (p′ .word))
       (rw (a .numbers .follows, a .parts) (sym (words-append (p .constant) (p .part) u v)))
       (then (a .words) (b .words));
@@ -66,7 +66,7 @@ pen-then {w} {m} {w′} {c} {n} {c′} {p} {q} {p′} {u} {v} a b = record {
   parts = omega (arith, a .parts, b .parts, begun-append u v);
 }
 
-pub room-first : {w : List ℕ} {c : List Float} {p : Pen} (u v : List Token) → Room w c p (u ++ v) → Room w c p u
+pub room-first : {w : List ℕ} {c : List Float} {p : Writer} (u v : List Token) → Room w c p (u ++ v) → Room w c p u
 room-first u v r = record {
   words = omega (arith, r .words, length-append u v);
   numbers = omega (arith, r .numbers, ap length (numbers-append u v), length-append (numbersOf u) (numbersOf v));
@@ -74,7 +74,7 @@ room-first u v r = record {
   parts = omega (arith, r .parts, begun-append u v);
 }
 
-pub room-then : {w m : List ℕ} {c n : List Float} {p q : Pen} (u v : List Token) → Room w c p (u ++ v) → Penned w c p u m n q → length m ≡ length w → length n ≡ length c → Room m n q v
+pub room-then : {w m : List ℕ} {c n : List Float} {p q : Writer} (u v : List Token) → Room w c p (u ++ v) → Written w c p u m n q → length m ≡ length w → length n ≡ length c → Room m n q v
 room-then {p = p} u v r a e d = record {
   words = omega (arith, r .words, length-append u v, a .words .follows, length-words (p .constant) (p .part) u);
   numbers = omega (arith, r .numbers, ap length (numbers-append u v), length-append (numbersOf u) (numbersOf v), a .numbers .follows);
@@ -105,14 +105,14 @@ module _ {A : Type 0} where
       (λ (lt : i < n). let r = each-split n i f lt in (r .0 ++ f n, rw (each-suc n f, r .1, append-assoc)))
       (eq-or-lt-of-le (le-of-suc-le-suc h))
 
-pub turns-none : (w : List ℕ) (c : List Float) (p : Pen) (f : ℕ → List Token) → Penned w c p (each 0 f) w c p
-turns-none w c p f = rw (each-zero f) (penned-none w c p)
+pub turns-none : (w : List ℕ) (c : List Float) (p : Writer) (f : ℕ → List Token) → Written w c p (each 0 f) w c p
+turns-none w c p f = rw (each-zero f) (written-none w c p)
 
-pub turns-step : {w m w′ : List ℕ} {c n c′ : List Float} {p q p′ : Pen} (f : ℕ → List Token) (i : ℕ) → Penned w c p (each i f) m n q → Penned m n q (f i) w′ c′ p′ → Penned w c p (each (i + 1) f) w′ c′ p′
-turns-step f i a b = rw (each-more i f) (pen-then a b)
+pub turns-step : {w m w′ : List ℕ} {c n c′ : List Float} {p q p′ : Writer} (f : ℕ → List Token) (i : ℕ) → Written w c p (each i f) m n q → Written m n q (f i) w′ c′ p′ → Written w c p (each (i + 1) f) w′ c′ p′
+turns-step f i a b = rw (each-more i f) (written-then a b)
 
 -- room for all is room for the next
-pub turns-room : {w m : List ℕ} {c n : List Float} {p q : Pen} (k : ℕ) (f : ℕ → List Token) (i : ℕ) → i < k → Room w c p (each k f) → Penned w c p (each i f) m n q → length m ≡ length w → length n ≡ length c → Room m n q (f i)
+pub turns-room : {w m : List ℕ} {c n : List Float} {p q : Writer} (k : ℕ) (f : ℕ → List Token) (i : ℕ) → i < k → Room w c p (each k f) → Written w c p (each i f) m n q → length m ≡ length w → length n ≡ length c → Room m n q (f i)
 turns-room k f i h r a e d =
     let s = each-split k i f h in
     room-then (each i f) (f i) (room-first (each i f ++ f i) (s .0) (rw (s .1) at r)) a e d

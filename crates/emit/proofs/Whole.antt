@@ -30,9 +30,9 @@ use Rattle.factor.specs.NonFinite.{segmentsBefore}
 use Rattle.factor.proofs.Chain.{start-at}
 use Rattle.factor.proofs.Sizes.{objectiveWords, count-of-words}
 use Rattle.factor.proofs.Steps.{segments-none, segments-next, epigraphs-le}
-use Rattle.emit.specs.declared.pen.Pen.{Pen}
+use Rattle.emit.specs.declared.writer.Writer.{Writer}
 use Rattle.base.specs.Section.{Wrote}
-use Rattle.emit.specs.Tokens.{Token, fixed, numbered, begins, wordsFrom, numbersOf, begun, tokens, listTokens, partTokens, Penned, Room}
+use Rattle.emit.specs.Tokens.{Token, fixed, numbered, begins, wordsFrom, numbersOf, begun, tokens, listTokens, partTokens, Written, Room}
 use Rattle.emit.specs.Sized.{Sized}
 use Rattle.emit.specs.Parts.{sharedTokens}
 use Rattle.emit.specs.Balance.{balanceOf, balancesOf}
@@ -196,10 +196,10 @@ numbers-whole ws xs = numbers-of-model (sharedParts ws xs) (map (λ r. r .expres
 
 -- ---- two writers, with the partTokens' numbers from 0 again
 
-abbrev pub begin : Pen
+abbrev pub begin : Writer
 begin = record { word = 0; constant = 0; part = 0 }
 
-abbrev pub again-from : Pen → Pen
+abbrev pub again-from : Writer → Writer
 again-from q = record { word = q .word; constant = q .constant; part = 0 }
 
 numbers-le : (ts : List Token) → length (numbersOf ts) ≤ length ts
@@ -229,7 +229,7 @@ module _ (u v : List Token) (ws : List ℕ) (cs : List Float) (ew : ws ≡ words
     parts = omega (arith, lw, begun-le u, d);
   }
 
-  pub room-rows : {w m : List ℕ} {c n : List Float} {q : Pen} → length ws ≤ length w → length cs ≤ length c → length ws ≤ 268435456 → Penned w c begin u m n q → length m ≡ length w → length n ≡ length c → Room m n (again-from q) v
+  pub room-rows : {w m : List ℕ} {c n : List Float} {q : Writer} → length ws ≤ length w → length cs ≤ length c → length ws ≤ 268435456 → Written w c begin u m n q → length m ≡ length w → length n ≡ length c → Room m n (again-from q) v
   room-rows a b d p e f = record {
     words = omega (arith, lw, a, e, p .words .follows, length-words 0 0 u);
     numbers = omega (arith, lc, b, f, p .numbers .follows);
@@ -237,12 +237,12 @@ module _ (u v : List Token) (ws : List ℕ) (cs : List Float) (ew : ws ≡ words
     parts = omega (arith, lw, begun-le v, d);
   }
 
-  pub both-words : {w m w′ : List ℕ} {c n c′ : List Float} {q p : Pen} → Penned w c begin u m n q → Penned m n (again-from q) v w′ c′ p → Wrote w 0 ws w′ (p .word)
+  pub both-words : {w m w′ : List ℕ} {c n c′ : List Float} {q p : Writer} → Written w c begin u m n q → Written m n (again-from q) v w′ c′ p → Wrote w 0 ws w′ (p .word)
   both-words {w = w} {w′ = w′} {q = q} {p = p} a b =
       let e : q .constant ≡ length (numbersOf u) = a .numbers .follows ∙ zero-add _ in
       rw ew (rw e at (then (a .words) (b .words)))
 
-  pub both-numbers : {w m w′ : List ℕ} {c n c′ : List Float} {q p : Pen} → Penned w c begin u m n q → Penned m n (again-from q) v w′ c′ p → Wrote c 0 cs c′ (p .constant)
+  pub both-numbers : {w m w′ : List ℕ} {c n c′ : List Float} {q p : Writer} → Written w c begin u m n q → Written m n (again-from q) v w′ c′ p → Wrote c 0 cs c′ (p .constant)
   both-numbers a b = rw ec (then (a .numbers) (b .numbers))
 
 module _ {ws : List ℕ} {xs : List Float} {z : Sizes} {start : ℕ} (s : Sized ws xs z) (e : start ≡ branchAt ws 0) where

@@ -8,7 +8,7 @@ use lib.Dec.{ltb}
 use lib.Ieee.{Float, binary64, ofBits, toBits}
 use Rattle.base.specs.Word.{word}
 use Rattle.nl.specs.Expr.{Expr, Terms, none, more, constant, column, shared, over, count}
-use Rattle.emit.specs.declared.pen.Pen.{Pen}
+use Rattle.emit.specs.declared.writer.Writer.{Writer}
 use Rattle.base.specs.Section.{Wrote}
 
 -- a word as it stands; a constant, by its 64 bits; the beginning of a shared part or row, by its kind
@@ -63,20 +63,21 @@ partTokens kind (e ∷ es) = begins kind ∷ tokens e ++ partTokens kind es
 abbrev pub throughBits : Float → Float
 throughBits x = ofBits binary64 (toBits binary64 x)
 
--- words and numbers, in which n parts begin, were written from the pen's places on
-pub record Put (w : List ℕ) (c : List Float) (p : Pen) (ws : List ℕ) (xs : List Float) (n : ℕ) (w′ : List ℕ) (c′ : List Float) (p′ : Pen) : Type 0 where
+-- words and numbers, in which n parts begin, were written from the writer's places on
+pub record Put (w : List ℕ) (c : List Float) (p : Writer) (ws : List ℕ) (xs : List Float) (n : ℕ)
+    (w′ : List ℕ) (c′ : List Float) (p′ : Writer) : Type 0 where
   pub words : Wrote w (p .word) ws w′ (p′ .word)
   pub numbers : Wrote c (p .constant) (map throughBits xs) c′ (p′ .constant)
   pub parts : p′ .part ≡ p .part + n
 
 -- the same of tokens
-pub record Penned (w : List ℕ) (c : List Float) (p : Pen) (ts : List Token) (w′ : List ℕ) (c′ : List Float) (p′ : Pen) : Type 0 where
+pub record Written (w : List ℕ) (c : List Float) (p : Writer) (ts : List Token) (w′ : List ℕ) (c′ : List Float) (p′ : Writer) : Type 0 where
   pub words : Wrote w (p .word) (wordsFrom (p .constant) (p .part) ts) w′ (p′ .word)
   pub numbers : Wrote c (p .constant) (numbersOf ts) c′ (p′ .constant)
   pub parts : p′ .part ≡ p .part + begun ts
 
 -- room for tokens in both lists, and running numbers that fit in 28 bits
-pub record Room (w : List ℕ) (c : List Float) (p : Pen) (ts : List Token) : Type 0 where
+pub record Room (w : List ℕ) (c : List Float) (p : Writer) (ts : List Token) : Type 0 where
   pub words : p .word + length ts ≤ length w
   pub numbers : p .constant + length (numbersOf ts) ≤ length c
   pub constants : p .constant + length (numbersOf ts) ≤ 268435456

@@ -1,6 +1,4 @@
 // The rows of curve segments.
-use crate::pen::Pen;
-use crate::pen::put;
 use crate::word::ADD;
 use crate::word::COLUMN;
 use crate::word::CONSTANT;
@@ -8,6 +6,8 @@ use crate::word::MULTIPLY;
 use crate::word::ROW;
 use crate::word::SUBTRACT;
 use crate::word::model_word;
+use crate::writer::Writer;
+use crate::writer::put;
 use acopf::intercept_of;
 use acopf::slope_of;
 use factor::counted;
@@ -20,7 +20,7 @@ ghost use mathlib.Core.List.{[], _∷_};
 ghost use Prim.Native.Nat.{ℕ, _+_, _*_, _<_, _≤_};
 ghost use lib.ListN.{length};
 ghost use Rattle.base.specs.Loop.{each};
-ghost use Rattle.emit.specs.Tokens.{Penned, Room, partTokens};
+ghost use Rattle.emit.specs.Tokens.{Written, Room, partTokens};
 ghost use Rattle.emit.specs.Sized.{Sized};
 ghost use Rattle.emit.specs.Rows.{segmentOf, segmentTokens, curveTokens};
 
@@ -32,20 +32,21 @@ fn segment_row(
     intercept: f64,
     file: &mut [u32],
     constants: &mut [f64],
-    pen: Pen,
-) -> Pen
+    writer: Writer,
+) -> Writer
     requires { ⌜ (epigraph < 4096) × (pg < 4096)
-        × Room (now file) (now constants) pen (partTokens 11 (segmentOf epigraph pg slope intercept ∷ [])) ⌝ }
-    ensures { λ r. ⌜ Penned (now (file .entry)) (now (constants .entry)) pen (partTokens 11 (segmentOf epigraph pg slope intercept ∷ []))
+        × Room (now file) (now constants) writer (partTokens 11 (segmentOf epigraph pg slope intercept ∷ [])) ⌝ }
+    ensures { λ r. ⌜ Written (now (file .entry)) (now (constants .entry)) writer
+        (partTokens 11 (segmentOf epigraph pg slope intercept ∷ []))
         (now (file .exit)) (now (constants .exit)) r ⌝ }
 {
-    let constant = pen.constant;
+    let constant = writer.constant;
     put(
         file,
         constants,
-        pen,
+        writer,
         &[
-            model_word(ROW, pen.part),
+            model_word(ROW, writer.part),
             SUBTRACT,
             model_word(COLUMN, epigraph),
             ADD,
@@ -68,14 +69,16 @@ fn segment_rows(
     pg: usize,
     file: &mut [u32],
     constants: &mut [f64],
-    pen: Pen,
-) -> Pen
-    requires { ⌜ ((s : ℕ) → s < count → at + 2 * s + 4 ≤ length (now numbers)) × (count ≤ 31) × (epigraph < 4096) × (pg < 4096)
-        × Room (now file) (now constants) pen (each count (segmentTokens (now numbers) at epigraph pg)) ⌝ }
-    ensures { λ r. ⌜ Penned (now (file .entry)) (now (constants .entry)) pen (each count (segmentTokens (now (numbers .entry)) at epigraph pg))
+    writer: Writer,
+) -> Writer
+    requires { ⌜ ((s : ℕ) → s < count → at + 2 * s + 4 ≤ length (now numbers))
+        × (count ≤ 31) × (epigraph < 4096) × (pg < 4096)
+        × Room (now file) (now constants) writer (each count (segmentTokens (now numbers) at epigraph pg)) ⌝ }
+    ensures { λ r. ⌜ Written (now (file .entry)) (now (constants .entry)) writer
+        (each count (segmentTokens (now (numbers .entry)) at epigraph pg))
         (now (file .exit)) (now (constants .exit)) r ⌝ }
 {
-    let mut next = pen;
+    let mut next = writer;
     let mut s = 0usize;
     while s < count {
         let slope = slope_of(numbers, at, s);
@@ -92,17 +95,18 @@ pub(crate) fn curve_rows(
     sizes: Sizes,
     file: &mut [u32],
     constants: &mut [f64],
-    pen: Pen,
-) -> Pen
+    writer: Writer,
+) -> Writer
     requires { ⌜ Sized (now words) (now numbers) sizes
-        × Room (now file) (now constants) pen (each (sizes .generators) (curveTokens (now words) (now numbers))) ⌝ }
-    ensures { λ r. ⌜ Penned (now (file .entry)) (now (constants .entry)) pen (each (sizes .generators) (curveTokens (now (words .entry)) (now (numbers .entry))))
+        × Room (now file) (now constants) writer (each (sizes .generators) (curveTokens (now words) (now numbers))) ⌝ }
+    ensures { λ r. ⌜ Written (now (file .entry)) (now (constants .entry)) writer
+        (each (sizes .generators) (curveTokens (now (words .entry)) (now (numbers .entry))))
         (now (file .exit)) (now (constants .exit)) r ⌝ }
 {
     let n = sizes.buses;
     let k = sizes.generators;
     let priced = header_costs(words[0]);
-    let mut next = pen;
+    let mut next = writer;
     let mut at = 8 * n;
     let mut epigraphs = 0usize;
     let mut g = 0usize;

@@ -1,6 +1,4 @@
 // The objective: under header 1 a term for each generator, its epigraph column or its quadratic cost, else the constant 0.
-use crate::pen::Pen;
-use crate::pen::put;
 use crate::word::COLUMN;
 use crate::word::CONSTANT;
 use crate::word::END;
@@ -9,6 +7,8 @@ use crate::word::OBJECTIVE;
 use crate::word::SQUARE;
 use crate::word::SUM;
 use crate::word::model_word;
+use crate::writer::Writer;
+use crate::writer::put;
 use factor::counted;
 use factor::is_curved;
 use network::Sizes;
@@ -24,34 +24,34 @@ ghost use Rattle.base.specs.Word.{word};
 ghost use Rattle.float.specs.Number.{_⊗_, half64};
 ghost use Rattle.nl.specs.Expr.{column};
 ghost use Rattle.network.specs.Network.{costs, number};
-ghost use Rattle.emit.specs.Tokens.{fixed, Penned, Room, listTokens};
+ghost use Rattle.emit.specs.Tokens.{fixed, Written, Room, listTokens};
 ghost use Rattle.emit.specs.Sized.{Sized};
 ghost use Rattle.emit.specs.Objective.{costOf, costTokens, sumHead, costCount, objectiveTokens};
 
 // The beginning of a sum of so many terms: none is a constant 0, one is its term.
-fn objective_head(terms: usize, file: &mut [u32], constants: &mut [f64], pen: Pen) -> Pen
+fn objective_head(terms: usize, file: &mut [u32], constants: &mut [f64], writer: Writer) -> Writer
     requires { ⌜ (terms ≤ 256)
-        × Room (now file) (now constants) pen (fixed (word 12 0) ∷ sumHead terms) ⌝ }
-    ensures { λ r. ⌜ Penned (now (file .entry)) (now (constants .entry)) pen (fixed (word 12 0) ∷ sumHead terms)
+        × Room (now file) (now constants) writer (fixed (word 12 0) ∷ sumHead terms) ⌝ }
+    ensures { λ r. ⌜ Written (now (file .entry)) (now (constants .entry)) writer (fixed (word 12 0) ∷ sumHead terms)
         (now (file .exit)) (now (constants .exit)) r ⌝ }
 {
     if terms == 0 {
         return put(
             file,
             constants,
-            pen,
-            &[OBJECTIVE, model_word(CONSTANT, pen.constant)],
+            writer,
+            &[OBJECTIVE, model_word(CONSTANT, writer.constant)],
             &[0.0],
             0,
         );
     }
     if terms == 1 {
-        return put(file, constants, pen, &[OBJECTIVE], &[], 0);
+        return put(file, constants, writer, &[OBJECTIVE], &[], 0);
     }
     put(
         file,
         constants,
-        pen,
+        writer,
         &[OBJECTIVE, model_word(SUM, terms)],
         &[],
         0,
@@ -65,19 +65,19 @@ fn quadratic_cost(
     linear: f64,
     file: &mut [u32],
     constants: &mut [f64],
-    pen: Pen,
-) -> Pen
+    writer: Writer,
+) -> Writer
     requires { ⌜ (pg < 4096)
-        × Room (now file) (now constants) pen (listTokens (costOf pg half linear ∷ [])) ⌝ }
-    ensures { λ r. ⌜ Penned (now (file .entry)) (now (constants .entry)) pen (listTokens (costOf pg half linear ∷ []))
+        × Room (now file) (now constants) writer (listTokens (costOf pg half linear ∷ [])) ⌝ }
+    ensures { λ r. ⌜ Written (now (file .entry)) (now (constants .entry)) writer (listTokens (costOf pg half linear ∷ []))
         (now (file .exit)) (now (constants .exit)) r ⌝ }
 {
-    let constant = pen.constant;
+    let constant = writer.constant;
     let own = model_word(COLUMN, pg);
     put(
         file,
         constants,
-        pen,
+        writer,
         &[
             model_word(SUM, 2),
             MULTIPLY,
@@ -102,18 +102,21 @@ fn cost_term(
     at: usize,
     file: &mut [u32],
     constants: &mut [f64],
-    pen: Pen,
-) -> Pen
+    writer: Writer,
+) -> Writer
     requires { ⌜ (epigraph < 4096) × (pg < 4096) × (at + 9 ≤ length (now numbers))
-        × Room (now file) (now constants) pen (listTokens (cond curved (column epigraph) (costOf pg (half64 ⊗ number (now numbers) (at + 4)) (number (now numbers) (at + 5))) ∷ [])) ⌝ }
-    ensures { λ r. ⌜ Penned (now (file .entry)) (now (constants .entry)) pen (listTokens (cond curved (column epigraph) (costOf pg (half64 ⊗ number (now (numbers .entry)) (at + 4)) (number (now (numbers .entry)) (at + 5))) ∷ []))
+        × Room (now file) (now constants) writer (listTokens (cond curved (column epigraph)
+        (costOf pg (half64 ⊗ number (now numbers) (at + 4)) (number (now numbers) (at + 5))) ∷ [])) ⌝ }
+    ensures { λ r. ⌜ Written (now (file .entry)) (now (constants .entry)) writer
+        (listTokens (cond curved (column epigraph)
+        (costOf pg (half64 ⊗ number (now (numbers .entry)) (at + 4)) (number (now (numbers .entry)) (at + 5))) ∷ []))
         (now (file .exit)) (now (constants .exit)) r ⌝ }
 {
     if curved {
         return put(
             file,
             constants,
-            pen,
+            writer,
             &[model_word(COLUMN, epigraph)],
             &[],
             0,
@@ -125,7 +128,7 @@ fn cost_term(
         numbers[at + 5],
         file,
         constants,
-        pen,
+        writer,
     )
 }
 
@@ -138,16 +141,17 @@ fn cost_terms(
     count: usize,
     file: &mut [u32],
     constants: &mut [f64],
-    pen: Pen,
-) -> Pen
+    writer: Writer,
+) -> Writer
     requires { ⌜ Sized (now words) (now numbers) sizes × (priced ≡ costs (now words)) × (count ≤ sizes .generators)
-        × Room (now file) (now constants) pen (each count (costTokens (now words) (now numbers))) ⌝ }
-    ensures { λ r. ⌜ Penned (now (file .entry)) (now (constants .entry)) pen (each count (costTokens (now (words .entry)) (now (numbers .entry))))
+        × Room (now file) (now constants) writer (each count (costTokens (now words) (now numbers))) ⌝ }
+    ensures { λ r. ⌜ Written (now (file .entry)) (now (constants .entry)) writer
+        (each count (costTokens (now (words .entry)) (now (numbers .entry))))
         (now (file .exit)) (now (constants .exit)) r ⌝ }
 {
     let n = sizes.buses;
     let k = sizes.generators;
-    let mut next = pen;
+    let mut next = writer;
     let mut at = 8 * n;
     let mut epigraphs = 0usize;
     let mut g = 0usize;
@@ -179,16 +183,18 @@ pub(crate) fn objective_and_end(
     sizes: Sizes,
     file: &mut [u32],
     constants: &mut [f64],
-    pen: Pen,
-) -> Pen
+    writer: Writer,
+) -> Writer
     requires { ⌜ Sized (now words) (now numbers) sizes
-        × Room (now file) (now constants) pen (objectiveTokens (now words) (now numbers) (costCount (costs (now words)) (sizes .generators))) ⌝ }
-    ensures { λ r. ⌜ Penned (now (file .entry)) (now (constants .entry)) pen (objectiveTokens (now (words .entry)) (now (numbers .entry)) (costCount (costs (now (words .entry))) (sizes .generators)))
+        × Room (now file) (now constants) writer
+        (objectiveTokens (now words) (now numbers) (costCount (costs (now words)) (sizes .generators))) ⌝ }
+    ensures { λ r. ⌜ Written (now (file .entry)) (now (constants .entry)) writer
+        (objectiveTokens (now (words .entry)) (now (numbers .entry)) (costCount (costs (now (words .entry))) (sizes .generators)))
         (now (file .exit)) (now (constants .exit)) r ⌝ }
 {
     let priced = header_costs(words[0]);
     let count = cost_count(priced, sizes.generators);
-    let head = objective_head(count, file, constants, pen);
+    let head = objective_head(count, file, constants, writer);
     let next = cost_terms(words, numbers, sizes, priced, count, file, constants, head);
     put(file, constants, next, &[END], &[], 0)
 }

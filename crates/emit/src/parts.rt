@@ -1,6 +1,4 @@
 // The shared parts: vm squared per bus, then eight per branch, by branch_flow's terms.
-use crate::pen::Pen;
-use crate::pen::put;
 use crate::word::COLUMN;
 use crate::word::CONSTANT;
 use crate::word::COSINE;
@@ -12,6 +10,8 @@ use crate::word::SQUARE;
 use crate::word::SUBTRACT;
 use crate::word::SUM;
 use crate::word::model_word;
+use crate::writer::Writer;
+use crate::writer::put;
 use acopf::coefficients;
 use network::Sizes;
 use network::branch_from;
@@ -24,34 +24,39 @@ ghost use Rattle.nl.specs.Expr.{column};
 ghost use Rattle.network.specs.Network.{branchAt};
 ghost use Rattle.acopf.specs.Build.{square};
 ghost use Rattle.acopf.specs.Parts.{branchParts};
-ghost use Rattle.emit.specs.Tokens.{Penned, Room, partTokens};
+ghost use Rattle.emit.specs.Tokens.{Written, Room, partTokens};
 ghost use Rattle.emit.specs.Sized.{Sized};
 ghost use Rattle.emit.specs.Parts.{angleParts, productParts, voltageParts, flowSum, flowParts, allParts, sharedTokens};
 
-fn square_part(vm: usize, file: &mut [u32], constants: &mut [f64], pen: Pen) -> Pen
+fn square_part(vm: usize, file: &mut [u32], constants: &mut [f64], writer: Writer) -> Writer
     requires { ⌜ (vm < 4096)
-        × Room (now file) (now constants) pen (partTokens 10 (square (column vm) ∷ [])) ⌝ }
-    ensures { λ r. ⌜ Penned (now (file .entry)) (now (constants .entry)) pen (partTokens 10 (square (column vm) ∷ []))
+        × Room (now file) (now constants) writer (partTokens 10 (square (column vm) ∷ [])) ⌝ }
+    ensures { λ r. ⌜ Written (now (file .entry)) (now (constants .entry)) writer (partTokens 10 (square (column vm) ∷ []))
         (now (file .exit)) (now (constants .exit)) r ⌝ }
 {
     put(
         file,
         constants,
-        pen,
-        &[model_word(PART, pen.part), SQUARE, model_word(COLUMN, vm)],
+        writer,
+        &[
+            model_word(PART, writer.part),
+            SQUARE,
+            model_word(COLUMN, vm),
+        ],
         &[],
         1,
     )
 }
 
 // Of n buses; their vm columns follow the va columns.
-fn vm_squared(n: usize, file: &mut [u32], constants: &mut [f64], pen: Pen) -> Pen
+fn vm_squared(n: usize, file: &mut [u32], constants: &mut [f64], writer: Writer) -> Writer
     requires { ⌜ (n ≤ 256)
-        × Room (now file) (now constants) pen (each n (λ i. partTokens 10 (square (column (n + i)) ∷ []))) ⌝ }
-    ensures { λ r. ⌜ Penned (now (file .entry)) (now (constants .entry)) pen (each n (λ i. partTokens 10 (square (column (n + i)) ∷ [])))
+        × Room (now file) (now constants) writer (each n (λ i. partTokens 10 (square (column (n + i)) ∷ []))) ⌝ }
+    ensures { λ r. ⌜ Written (now (file .entry)) (now (constants .entry)) writer
+        (each n (λ i. partTokens 10 (square (column (n + i)) ∷ [])))
         (now (file .exit)) (now (constants .exit)) r ⌝ }
 {
-    let mut next = pen;
+    let mut next = writer;
     let mut i = 0usize;
     while i < n {
         next = square_part(n + i, file, constants, next);
@@ -67,18 +72,18 @@ fn angle_parts(
     to: usize,
     file: &mut [u32],
     constants: &mut [f64],
-    pen: Pen,
-) -> Pen
+    writer: Writer,
+) -> Writer
     requires { ⌜ (n ≤ 256) × (from < 4096) × (to < 4096)
-        × Room (now file) (now constants) pen (partTokens 10 (angleParts n from to)) ⌝ }
-    ensures { λ r. ⌜ Penned (now (file .entry)) (now (constants .entry)) pen (partTokens 10 (angleParts n from to))
+        × Room (now file) (now constants) writer (partTokens 10 (angleParts n from to)) ⌝ }
+    ensures { λ r. ⌜ Written (now (file .entry)) (now (constants .entry)) writer (partTokens 10 (angleParts n from to))
         (now (file .exit)) (now (constants .exit)) r ⌝ }
 {
-    let part = pen.part;
+    let part = writer.part;
     put(
         file,
         constants,
-        pen,
+        writer,
         &[
             model_word(PART, part),
             SUBTRACT,
@@ -95,19 +100,19 @@ fn angle_parts(
 }
 
 // wr and wi of a branch, of whose eight parts the first has the number `first`.
-fn product_parts(first: usize, file: &mut [u32], constants: &mut [f64], pen: Pen) -> Pen
+fn product_parts(first: usize, file: &mut [u32], constants: &mut [f64], writer: Writer) -> Writer
     requires { ⌜ (first ≤ 65536)
-        × Room (now file) (now constants) pen (partTokens 10 (productParts first)) ⌝ }
-    ensures { λ r. ⌜ Penned (now (file .entry)) (now (constants .entry)) pen (partTokens 10 (productParts first))
+        × Room (now file) (now constants) writer (partTokens 10 (productParts first)) ⌝ }
+    ensures { λ r. ⌜ Written (now (file .entry)) (now (constants .entry)) writer (partTokens 10 (productParts first))
         (now (file .exit)) (now (constants .exit)) r ⌝ }
 {
-    let part = pen.part;
+    let part = writer.part;
     let angle = model_word(SHARED, first);
     let product = model_word(SHARED, first + 1);
     put(
         file,
         constants,
-        pen,
+        writer,
         &[
             model_word(PART, part),
             MULTIPLY,
@@ -132,14 +137,14 @@ fn voltage_parts(
     to: usize,
     file: &mut [u32],
     constants: &mut [f64],
-    pen: Pen,
-) -> Pen
+    writer: Writer,
+) -> Writer
     requires { ⌜ (n ≤ 256) × (first ≤ 65536) × (from < 4096) × (to < 4096)
-        × Room (now file) (now constants) pen (partTokens 10 (voltageParts n first from to)) ⌝ }
-    ensures { λ r. ⌜ Penned (now (file .entry)) (now (constants .entry)) pen (partTokens 10 (voltageParts n first from to))
+        × Room (now file) (now constants) writer (partTokens 10 (voltageParts n first from to)) ⌝ }
+    ensures { λ r. ⌜ Written (now (file .entry)) (now (constants .entry)) writer (partTokens 10 (voltageParts n first from to))
         (now (file .exit)) (now (constants .exit)) r ⌝ }
 {
-    let next = angle_parts(n, from, to, file, constants, pen);
+    let next = angle_parts(n, from, to, file, constants, writer);
     product_parts(first, file, constants, next)
 }
 
@@ -152,20 +157,20 @@ fn flow_part(
     e: f64,
     file: &mut [u32],
     constants: &mut [f64],
-    pen: Pen,
-) -> Pen
+    writer: Writer,
+) -> Writer
     requires { ⌜ (first ≤ 65536) × (bus < 4096)
-        × Room (now file) (now constants) pen (partTokens 10 (flowSum first bus c d e ∷ [])) ⌝ }
-    ensures { λ r. ⌜ Penned (now (file .entry)) (now (constants .entry)) pen (partTokens 10 (flowSum first bus c d e ∷ []))
+        × Room (now file) (now constants) writer (partTokens 10 (flowSum first bus c d e ∷ [])) ⌝ }
+    ensures { λ r. ⌜ Written (now (file .entry)) (now (constants .entry)) writer (partTokens 10 (flowSum first bus c d e ∷ []))
         (now (file .exit)) (now (constants .exit)) r ⌝ }
 {
-    let constant = pen.constant;
+    let constant = writer.constant;
     put(
         file,
         constants,
-        pen,
+        writer,
         &[
-            model_word(PART, pen.part),
+            model_word(PART, writer.part),
             model_word(SUM, 3),
             MULTIPLY,
             model_word(CONSTANT, constant),
@@ -189,14 +194,14 @@ fn flow_parts(
     cs: [f64; 6],
     file: &mut [u32],
     constants: &mut [f64],
-    pen: Pen,
-) -> Pen
+    writer: Writer,
+) -> Writer
     requires { ⌜ (first ≤ 65536) × (bus < 4096)
-        × Room (now file) (now constants) pen (partTokens 10 (flowParts first bus cs 0)) ⌝ }
-    ensures { λ r. ⌜ Penned (now (file .entry)) (now (constants .entry)) pen (partTokens 10 (flowParts first bus cs 0))
+        × Room (now file) (now constants) writer (partTokens 10 (flowParts first bus cs 0)) ⌝ }
+    ensures { λ r. ⌜ Written (now (file .entry)) (now (constants .entry)) writer (partTokens 10 (flowParts first bus cs 0))
         (now (file .exit)) (now (constants .exit)) r ⌝ }
 {
-    let next = flow_part(first, bus, cs[0], cs[1], cs[2], file, constants, pen);
+    let next = flow_part(first, bus, cs[0], cs[1], cs[2], file, constants, writer);
     flow_part(first, bus, cs[3], cs[4], cs[5], file, constants, next)
 }
 
@@ -208,14 +213,14 @@ fn branch_parts(
     cs: [f64; 12],
     file: &mut [u32],
     constants: &mut [f64],
-    pen: Pen,
-) -> Pen
+    writer: Writer,
+) -> Writer
     requires { ⌜ (n ≤ 256) × (first ≤ 65536) × (from < 4096) × (to < 4096)
-        × Room (now file) (now constants) pen (partTokens 10 (allParts n first from to cs)) ⌝ }
-    ensures { λ r. ⌜ Penned (now (file .entry)) (now (constants .entry)) pen (partTokens 10 (allParts n first from to cs))
+        × Room (now file) (now constants) writer (partTokens 10 (allParts n first from to cs)) ⌝ }
+    ensures { λ r. ⌜ Written (now (file .entry)) (now (constants .entry)) writer (partTokens 10 (allParts n first from to cs))
         (now (file .exit)) (now (constants .exit)) r ⌝ }
 {
-    let voltages = voltage_parts(n, first, from, to, file, constants, pen);
+    let voltages = voltage_parts(n, first, from, to, file, constants, writer);
     let at_from = [cs[0], cs[1], cs[2], cs[3], cs[4], cs[5]];
     let flows = flow_parts(first, from, at_from, file, constants, voltages);
     let at_to = [cs[6], cs[7], cs[8], cs[9], cs[10], cs[11]];
@@ -231,11 +236,12 @@ fn branch_flow(
     at: usize,
     file: &mut [u32],
     constants: &mut [f64],
-    pen: Pen,
-) -> Pen
+    writer: Writer,
+) -> Writer
     requires { ⌜ Sized (now words) (now numbers) sizes × (b < sizes .branches) × (at ≡ branchAt (now words) b)
-        × Room (now file) (now constants) pen (partTokens 10 (branchParts (now words) (now numbers) b)) ⌝ }
-    ensures { λ r. ⌜ Penned (now (file .entry)) (now (constants .entry)) pen (partTokens 10 (branchParts (now (words .entry)) (now (numbers .entry)) b))
+        × Room (now file) (now constants) writer (partTokens 10 (branchParts (now words) (now numbers) b)) ⌝ }
+    ensures { λ r. ⌜ Written (now (file .entry)) (now (constants .entry)) writer
+        (partTokens 10 (branchParts (now (words .entry)) (now (numbers .entry)) b))
         (now (file .exit)) (now (constants .exit)) r ⌝ }
 {
     let n = sizes.buses;
@@ -243,7 +249,7 @@ fn branch_flow(
     let from = branch_from(w);
     let to = branch_to(w);
     let cs = coefficients(numbers, at);
-    branch_parts(n, n + 8 * b, from, to, cs, file, constants, pen)
+    branch_parts(n, n + 8 * b, from, to, cs, file, constants, writer)
 }
 
 // The branches' numbers start at `start`.
@@ -254,15 +260,16 @@ fn branch_flows(
     start: usize,
     file: &mut [u32],
     constants: &mut [f64],
-    pen: Pen,
-) -> Pen
+    writer: Writer,
+) -> Writer
     requires { ⌜ Sized (now words) (now numbers) sizes × (start ≡ branchAt (now words) 0)
-        × Room (now file) (now constants) pen (each (sizes .branches) (λ b. partTokens 10 (branchParts (now words) (now numbers) b))) ⌝ }
-    ensures { λ r. ⌜ Penned (now (file .entry)) (now (constants .entry)) pen (each (sizes .branches) (λ b. partTokens 10 (branchParts (now (words .entry)) (now (numbers .entry)) b)))
+        × Room (now file) (now constants) writer (each (sizes .branches) (λ b. partTokens 10 (branchParts (now words) (now numbers) b))) ⌝ }
+    ensures { λ r. ⌜ Written (now (file .entry)) (now (constants .entry)) writer
+        (each (sizes .branches) (λ b. partTokens 10 (branchParts (now (words .entry)) (now (numbers .entry)) b)))
         (now (file .exit)) (now (constants .exit)) r ⌝ }
 {
     let m = sizes.branches;
-    let mut next = pen;
+    let mut next = writer;
     let mut b = 0usize;
     while b < m {
         next = branch_flow(
@@ -287,13 +294,14 @@ pub(crate) fn shared_parts(
     start: usize,
     file: &mut [u32],
     constants: &mut [f64],
-    pen: Pen,
-) -> Pen
+    writer: Writer,
+) -> Writer
     requires { ⌜ Sized (now words) (now numbers) sizes × (start ≡ branchAt (now words) 0)
-        × Room (now file) (now constants) pen (sharedTokens (now words) (now numbers) (sizes .buses) (sizes .branches)) ⌝ }
-    ensures { λ r. ⌜ Penned (now (file .entry)) (now (constants .entry)) pen (sharedTokens (now (words .entry)) (now (numbers .entry)) (sizes .buses) (sizes .branches))
+        × Room (now file) (now constants) writer (sharedTokens (now words) (now numbers) (sizes .buses) (sizes .branches)) ⌝ }
+    ensures { λ r. ⌜ Written (now (file .entry)) (now (constants .entry)) writer
+        (sharedTokens (now (words .entry)) (now (numbers .entry)) (sizes .buses) (sizes .branches))
         (now (file .exit)) (now (constants .exit)) r ⌝ }
 {
-    let next = vm_squared(sizes.buses, file, constants, pen);
+    let next = vm_squared(sizes.buses, file, constants, writer);
     branch_flows(words, numbers, sizes, start, file, constants, next)
 }

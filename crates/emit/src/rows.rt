@@ -1,6 +1,4 @@
 // The rows of references, active angle differences and thermal limits.
-use crate::pen::Pen;
-use crate::pen::put;
 use crate::word::ADD;
 use crate::word::COLUMN;
 use crate::word::CONSTANT;
@@ -9,6 +7,8 @@ use crate::word::SHARED;
 use crate::word::SQUARE;
 use crate::word::SUBTRACT;
 use crate::word::model_word;
+use crate::writer::Writer;
+use crate::writer::put;
 use factor::is_rated;
 use network::branch_angled;
 use network::branch_from;
@@ -20,20 +20,20 @@ ghost use lib.ListN.{length};
 ghost use Rattle.base.specs.Loop.{each, keep};
 ghost use Rattle.nl.specs.Expr.{column};
 ghost use Rattle.acopf.specs.Build.{subtract};
-ghost use Rattle.emit.specs.Tokens.{Penned, Room, partTokens};
+ghost use Rattle.emit.specs.Tokens.{Written, Room, partTokens};
 ghost use Rattle.emit.specs.Rows.{referenceTokens, angleTokens, thermalOf, thermalPair, thermalTokens};
 
-fn reference_row(va: usize, file: &mut [u32], constants: &mut [f64], pen: Pen) -> Pen
+fn reference_row(va: usize, file: &mut [u32], constants: &mut [f64], writer: Writer) -> Writer
     requires { ⌜ (va < 4096)
-        × Room (now file) (now constants) pen (partTokens 11 (column va ∷ [])) ⌝ }
-    ensures { λ r. ⌜ Penned (now (file .entry)) (now (constants .entry)) pen (partTokens 11 (column va ∷ []))
+        × Room (now file) (now constants) writer (partTokens 11 (column va ∷ [])) ⌝ }
+    ensures { λ r. ⌜ Written (now (file .entry)) (now (constants .entry)) writer (partTokens 11 (column va ∷ []))
         (now (file .exit)) (now (constants .exit)) r ⌝ }
 {
     put(
         file,
         constants,
-        pen,
-        &[model_word(ROW, pen.part), model_word(COLUMN, va)],
+        writer,
+        &[model_word(ROW, writer.part), model_word(COLUMN, va)],
         &[],
         1,
     )
@@ -45,14 +45,14 @@ pub(crate) fn reference_rows(
     count: usize,
     file: &mut [u32],
     constants: &mut [f64],
-    pen: Pen,
-) -> Pen
+    writer: Writer,
+) -> Writer
     requires { ⌜ (first + count ≤ length (now words))
-        × Room (now file) (now constants) pen (each count (referenceTokens (now words) first)) ⌝ }
-    ensures { λ r. ⌜ Penned (now (file .entry)) (now (constants .entry)) pen (each count (referenceTokens (now (words .entry)) first))
+        × Room (now file) (now constants) writer (each count (referenceTokens (now words) first)) ⌝ }
+    ensures { λ r. ⌜ Written (now (file .entry)) (now (constants .entry)) writer (each count (referenceTokens (now (words .entry)) first))
         (now (file .exit)) (now (constants .exit)) r ⌝ }
 {
-    let mut next = pen;
+    let mut next = writer;
     let mut i = 0usize;
     while i < count {
         next = reference_row(reference_bus(words[first + i]), file, constants, next);
@@ -67,20 +67,21 @@ fn angle_row(
     to: usize,
     file: &mut [u32],
     constants: &mut [f64],
-    pen: Pen,
-) -> Pen
+    writer: Writer,
+) -> Writer
     requires { ⌜ (from < 4096) × (to < 4096)
-        × Room (now file) (now constants) pen (partTokens 11 (keep active (subtract (column from) (column to)))) ⌝ }
-    ensures { λ r. ⌜ Penned (now (file .entry)) (now (constants .entry)) pen (partTokens 11 (keep active (subtract (column from) (column to))))
+        × Room (now file) (now constants) writer (partTokens 11 (keep active (subtract (column from) (column to)))) ⌝ }
+    ensures { λ r. ⌜ Written (now (file .entry)) (now (constants .entry)) writer
+        (partTokens 11 (keep active (subtract (column from) (column to))))
         (now (file .exit)) (now (constants .exit)) r ⌝ }
 {
     if active {
         return put(
             file,
             constants,
-            pen,
+            writer,
             &[
-                model_word(ROW, pen.part),
+                model_word(ROW, writer.part),
                 SUBTRACT,
                 model_word(COLUMN, from),
                 model_word(COLUMN, to),
@@ -89,7 +90,7 @@ fn angle_row(
             1,
         );
     }
-    pen
+    writer
 }
 
 pub(crate) fn angle_rows(
@@ -98,14 +99,14 @@ pub(crate) fn angle_rows(
     m: usize,
     file: &mut [u32],
     constants: &mut [f64],
-    pen: Pen,
-) -> Pen
+    writer: Writer,
+) -> Writer
     requires { ⌜ (first + m ≤ length (now words))
-        × Room (now file) (now constants) pen (each m (angleTokens (now words) first)) ⌝ }
-    ensures { λ r. ⌜ Penned (now (file .entry)) (now (constants .entry)) pen (each m (angleTokens (now (words .entry)) first))
+        × Room (now file) (now constants) writer (each m (angleTokens (now words) first)) ⌝ }
+    ensures { λ r. ⌜ Written (now (file .entry)) (now (constants .entry)) writer (each m (angleTokens (now (words .entry)) first))
         (now (file .exit)) (now (constants .exit)) r ⌝ }
 {
-    let mut next = pen;
+    let mut next = writer;
     let mut b = 0usize;
     while b < m {
         let w = words[first + b];
@@ -129,21 +130,21 @@ fn thermal_row(
     q: usize,
     file: &mut [u32],
     constants: &mut [f64],
-    pen: Pen,
-) -> Pen
+    writer: Writer,
+) -> Writer
     requires { ⌜ (p < 65536) × (q < 65536)
-        × Room (now file) (now constants) pen (partTokens 11 (thermalOf p q square ∷ [])) ⌝ }
-    ensures { λ r. ⌜ Penned (now (file .entry)) (now (constants .entry)) pen (partTokens 11 (thermalOf p q square ∷ []))
+        × Room (now file) (now constants) writer (partTokens 11 (thermalOf p q square ∷ [])) ⌝ }
+    ensures { λ r. ⌜ Written (now (file .entry)) (now (constants .entry)) writer (partTokens 11 (thermalOf p q square ∷ []))
         (now (file .exit)) (now (constants .exit)) r ⌝ }
 {
     put(
         file,
         constants,
-        pen,
+        writer,
         &[
-            model_word(ROW, pen.part),
+            model_word(ROW, writer.part),
             SUBTRACT,
-            model_word(CONSTANT, pen.constant),
+            model_word(CONSTANT, writer.constant),
             ADD,
             SQUARE,
             model_word(SHARED, p),
@@ -162,18 +163,18 @@ fn thermal_pair(
     square: f64,
     file: &mut [u32],
     constants: &mut [f64],
-    pen: Pen,
-) -> Pen
+    writer: Writer,
+) -> Writer
     requires { ⌜ (first < 65000)
-        × Room (now file) (now constants) pen (partTokens 11 (thermalPair rated first square)) ⌝ }
-    ensures { λ r. ⌜ Penned (now (file .entry)) (now (constants .entry)) pen (partTokens 11 (thermalPair rated first square))
+        × Room (now file) (now constants) writer (partTokens 11 (thermalPair rated first square)) ⌝ }
+    ensures { λ r. ⌜ Written (now (file .entry)) (now (constants .entry)) writer (partTokens 11 (thermalPair rated first square))
         (now (file .exit)) (now (constants .exit)) r ⌝ }
 {
     if rated {
-        let next = thermal_row(square, first + 4, first + 5, file, constants, pen);
+        let next = thermal_row(square, first + 4, first + 5, file, constants, writer);
         return thermal_row(square, first + 6, first + 7, file, constants, next);
     }
-    pen
+    writer
 }
 
 // Of m branches, whose words start at `first` and whose numbers at `start`.
@@ -186,14 +187,15 @@ pub(crate) fn thermal_rows(
     m: usize,
     file: &mut [u32],
     constants: &mut [f64],
-    pen: Pen,
-) -> Pen
+    writer: Writer,
+) -> Writer
     requires { ⌜ (first + m ≤ length (now words)) × (start + 11 * m ≤ length (now numbers)) × (n ≤ 256) × (m ≤ 512)
-        × Room (now file) (now constants) pen (each m (thermalTokens (now words) (now numbers) first n start)) ⌝ }
-    ensures { λ r. ⌜ Penned (now (file .entry)) (now (constants .entry)) pen (each m (thermalTokens (now (words .entry)) (now (numbers .entry)) first n start))
+        × Room (now file) (now constants) writer (each m (thermalTokens (now words) (now numbers) first n start)) ⌝ }
+    ensures { λ r. ⌜ Written (now (file .entry)) (now (constants .entry)) writer
+        (each m (thermalTokens (now (words .entry)) (now (numbers .entry)) first n start))
         (now (file .exit)) (now (constants .exit)) r ⌝ }
 {
-    let mut next = pen;
+    let mut next = writer;
     let mut b = 0usize;
     while b < m {
         let s_max = numbers[start + 11 * b + 10];

@@ -1,14 +1,12 @@
-use native.Mathlib.Omega.{arith}
 use borrow.Author.Needs.{needs}
-use Rattle.emit.proofs.Tokens.{penned-none}
 use Rattle.emit.proofs.balance.end_term.Statement.{statement}
 use Rattle.emit.proofs.balance.end_term.Tie as tie
 
 model-word-requires : tie.Need-model-word-requires
-model-word-requires c κs = let room = rw (c .before .before .if1 .taken) at (c .before .before .before .before .before .pre .1) in (omega arith, omega (arith, room .constants, room .parts))
+model-word-requires c κs = search needs
 
 model-word-requires-2 : tie.Need-model-word-requires-2
-model-word-requires-2 c κs = let room = rw (c .before .before .before .if1 .taken) at (c .before .before .before .before .before .before .pre .1) in (omega arith, omega (arith, room .constants, room .parts))
+model-word-requires-2 c κs = search needs
 
 slice-aggregate-put : tie.Need-slice-aggregate-put
 slice-aggregate-put c = search needs
@@ -17,7 +15,7 @@ slice-aggregate-put-2 : tie.Need-slice-aggregate-put-2
 slice-aggregate-put-2 c = search needs
 
 put-requires : tie.Need-put-requires
-put-requires c κs = let room = rw (c .before .before .before .before .before .before .if1 .taken) at (c .before .before .before .before .before .before .before .before .before .pre .1) in (room .words, room .numbers, room .parts)
+put-requires c κs = search needs
 
 same-length : tie.Need-same-length
 same-length c = search needs
@@ -26,10 +24,9 @@ same-length-2 : tie.Need-same-length-2
 same-length-2 c = search needs
 
 returns : tie.Need-returns
-returns c = let k = c .before .before .before .before .put .ensures in rw (c .before .before .before .before .before .before .before .before .before .before .before .if1 .taken) (record { words = rw (c .before .before .before .before .before .before .before .before .model-word .ensures, c .before .before .before .before .before .before .before .model-word2 .ensures) at (k .words); numbers = k .numbers; parts = k .parts })
-
-returns-2 : tie.Need-returns-2
-returns-2 c = rw (c .if1 .left) (penned-none _ _ _)
+returns c =
+    let put = c .before .before .before .before .put .ensures in
+    record { words = rw (c .before .before .before .before .before .before .before .before .model-word .ensures, c .before .before .before .before .before .before .before .model-word2 .ensures) at (put .words); numbers = put .numbers; parts = put .parts }
 
 pub end-term-spec : {M : Type 1} → statement M
 end-term-spec =
@@ -42,5 +39,4 @@ end-term-spec =
     put-requires
     same-length
     same-length-2
-    returns
-    returns-2)
+    returns)

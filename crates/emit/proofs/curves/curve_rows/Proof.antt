@@ -8,7 +8,7 @@ use Rattle.network.specs.Network.{generatorAt, epigraphsBefore}
 use Rattle.network.specs.Word.{generatorPoints}
 use Rattle.network.proofs.Good.{generator-zero}
 use Rattle.factor.proofs.Steps.{generators-turn, epigraphs-none, epigraphs-turn, curved-is}
-use Rattle.emit.specs.Tokens.{Penned}
+use Rattle.emit.specs.Tokens.{Written}
 use Rattle.emit.specs.Rows.{curveTokens}
 use Rattle.emit.proofs.Tokens.{turns-none, turns-step, turns-room}
 use Rattle.emit.proofs.Pieces.{generator-in, curve-is}
@@ -20,7 +20,7 @@ few-points w e = rw e (omega arith)
 
 abbrev Inv-loop : tie.InvT-loop
 Inv-loop words numbers file₀ constants₀ n k priced next₀ at₀ epigraphs₀ g₀ file constants next at epigraphs g =
-    (g ≤ k) × (length file ≡ length file₀) × (length constants ≡ length constants₀) × (at ≡ generatorAt words g) × (epigraphs ≡ epigraphsBefore words g) × (epigraphs ≤ g) × Penned file₀ constants₀ next₀ (each g (curveTokens words numbers)) file constants next
+    (g ≤ k) × (length file ≡ length file₀) × (length constants ≡ length constants₀) × (at ≡ generatorAt words g) × (epigraphs ≡ epigraphsBefore words g) × (epigraphs ≤ g) × Written file₀ constants₀ next₀ (each g (curveTokens words numbers)) file constants next
 
 abbrev μ-loop : tie.MeasureT-loop
 μ-loop words numbers file₀ constants₀ n k priced next₀ at₀ epigraphs₀ g₀ file constants next at epigraphs g = k - g

@@ -7,7 +7,7 @@ use lib.Ieee.{Float}
 use borrow.Author.Needs.{needs}
 use Rattle.base.specs.Loop.{each}
 use Rattle.acopf.specs.Curve.{slope, intercept}
-use Rattle.emit.specs.Tokens.{Penned, partTokens}
+use Rattle.emit.specs.Tokens.{Written, partTokens}
 use Rattle.emit.specs.Rows.{segmentOf, segmentTokens}
 use Rattle.emit.proofs.Tokens.{turns-none, turns-step, turns-room}
 use Rattle.emit.proofs.curves.segment_rows.Statement.{statement}
@@ -18,7 +18,7 @@ row-is xs at e c s p q = rw (p, q)
 
 abbrev Inv-loop : tie.InvT-loop
 Inv-loop numbers at count epigraph pg file₀ constants₀ next₀ s₀ file constants next s =
-    (s ≤ count) × (length file ≡ length file₀) × (length constants ≡ length constants₀) × Penned file₀ constants₀ next₀ (each s (segmentTokens numbers at epigraph pg)) file constants next
+    (s ≤ count) × (length file ≡ length file₀) × (length constants ≡ length constants₀) × Written file₀ constants₀ next₀ (each s (segmentTokens numbers at epigraph pg)) file constants next
 
 abbrev μ-loop : tie.MeasureT-loop
 μ-loop numbers at count epigraph pg file₀ constants₀ next₀ s₀ file constants next s = count - s

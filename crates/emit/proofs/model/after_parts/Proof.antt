@@ -3,7 +3,7 @@ use mathlib.Core.List.{_++_}
 use Rattle.network.specs.Network.{costs}
 use Rattle.emit.specs.Objective.{costCount, objectiveTokens}
 use Rattle.emit.specs.Whole.{busRows, branchRows, rowTokens}
-use Rattle.emit.proofs.Tokens.{pen-then, room-first, room-then}
+use Rattle.emit.proofs.Tokens.{written-then, room-first, room-then}
 use Rattle.emit.proofs.model.after_parts.Statement.{statement}
 use Rattle.emit.proofs.model.after_parts.Tie as tie
 
@@ -33,7 +33,7 @@ same-length-2 c = omega (arith, c .before .before .before .before .before .befor
 
 returns : tie.Need-returns
 unfolding rowTokens
-returns c = pen-then (c .before .before .before .before .before .before .before .before .before .before .before .before .before .before .before .before .before .before .bus-rows .ensures) (pen-then (c .before .before .before .before .before .before .before .before .before .before .before .branch-rows .ensures) (c .before .before .before .before .objective-and-end .ensures))
+returns c = written-then (c .before .before .before .before .before .before .before .before .before .before .before .before .before .before .before .before .before .before .bus-rows .ensures) (written-then (c .before .before .before .before .before .before .before .before .before .before .before .branch-rows .ensures) (c .before .before .before .before .objective-and-end .ensures))
 
 pub after-parts-spec : {M : Type 1} → statement M
 after-parts-spec =

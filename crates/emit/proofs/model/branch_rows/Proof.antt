@@ -4,7 +4,7 @@ use mathlib.Core.List.{_++_}
 use Rattle.base.specs.Loop.{each}
 use Rattle.emit.specs.Rows.{angleTokens, thermalTokens, curveTokens}
 use Rattle.emit.specs.Whole.{branchRows}
-use Rattle.emit.proofs.Tokens.{pen-then, room-first, room-then}
+use Rattle.emit.proofs.Tokens.{written-then, room-first, room-then}
 use Rattle.emit.proofs.Pieces.{branches-in}
 use Rattle.emit.proofs.model.branch_rows.Statement.{statement}
 use Rattle.emit.proofs.model.branch_rows.Tie as tie
@@ -44,7 +44,7 @@ same-length-2 c = omega (arith, c .before .before .before .before .before .befor
 
 returns : tie.Need-returns
 unfolding branchRows
-returns c = pen-then (c .before .before .before .before .before .before .before .before .before .before .before .before .before .before .before .before .before .before .angle-rows .ensures) (pen-then (c .before .before .before .before .before .before .before .before .before .before .before .thermal-rows .ensures) (c .before .before .before .before .curve-rows .ensures))
+returns c = written-then (c .before .before .before .before .before .before .before .before .before .before .before .before .before .before .before .before .before .before .angle-rows .ensures) (written-then (c .before .before .before .before .before .before .before .before .before .before .before .thermal-rows .ensures) (c .before .before .before .before .curve-rows .ensures))
 
 pub branch-rows-spec : {M : Type 1} → statement M
 branch-rows-spec =

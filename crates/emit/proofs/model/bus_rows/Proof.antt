@@ -4,7 +4,7 @@ use Rattle.base.specs.Loop.{each}
 use Rattle.emit.specs.Balance.{balancesOf}
 use Rattle.emit.specs.Rows.{referenceTokens}
 use Rattle.emit.specs.Whole.{busRows}
-use Rattle.emit.proofs.Tokens.{pen-then, room-first, room-then}
+use Rattle.emit.proofs.Tokens.{written-then, room-first, room-then}
 use Rattle.emit.proofs.model.bus_rows.Statement.{statement}
 use Rattle.emit.proofs.model.bus_rows.Tie as tie
 
@@ -39,7 +39,7 @@ same-length-2 c = omega (arith, c .before .before .before .before .before .befor
 
 returns : tie.Need-returns
 unfolding busRows
-returns c = pen-then (c .before .before .before .before .before .before .before .before .before .before .before .before .before .before .balances .ensures) (c .before .before .before .before .reference-rows .ensures)
+returns c = written-then (c .before .before .before .before .before .before .before .before .before .before .before .before .before .before .balances .ensures) (c .before .before .before .before .reference-rows .ensures)
 
 pub bus-rows-spec : {M : Type 1} → statement M
 bus-rows-spec =

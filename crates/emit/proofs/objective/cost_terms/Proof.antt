@@ -7,7 +7,7 @@ use Rattle.base.specs.Loop.{each}
 use Rattle.network.specs.Network.{generatorAt, epigraphsBefore}
 use Rattle.network.proofs.Good.{generator-zero}
 use Rattle.factor.proofs.Steps.{generators-turn, epigraphs-none, epigraphs-turn, curved-is}
-use Rattle.emit.specs.Tokens.{Penned}
+use Rattle.emit.specs.Tokens.{Written}
 use Rattle.emit.specs.Objective.{costTokens}
 use Rattle.emit.proofs.Tokens.{turns-none, turns-step, turns-room}
 use Rattle.emit.proofs.Pieces.{generator-in, cost-is}
@@ -16,7 +16,7 @@ use Rattle.emit.proofs.objective.cost_terms.Tie as tie
 
 abbrev Inv-loop : tie.InvT-loop
 Inv-loop words numbers priced count file₀ constants₀ n k next₀ at₀ epigraphs₀ g₀ file constants next at epigraphs g =
-    (g ≤ count) × (length file ≡ length file₀) × (length constants ≡ length constants₀) × (at ≡ generatorAt words g) × (epigraphs ≡ epigraphsBefore words g) × (epigraphs ≤ g) × Penned file₀ constants₀ next₀ (each g (costTokens words numbers)) file constants next
+    (g ≤ count) × (length file ≡ length file₀) × (length constants ≡ length constants₀) × (at ≡ generatorAt words g) × (epigraphs ≡ epigraphsBefore words g) × (epigraphs ≤ g) × Written file₀ constants₀ next₀ (each g (costTokens words numbers)) file constants next
 
 abbrev μ-loop : tie.MeasureT-loop
 μ-loop words numbers priced count file₀ constants₀ n k next₀ at₀ epigraphs₀ g₀ file constants next at epigraphs g = count - g

@@ -6,7 +6,7 @@ use Rattle.base.specs.Loop.{each}
 use Rattle.base.specs.Word.{word}
 use Rattle.emit.specs.Tokens.{Token, fixed}
 use Rattle.emit.specs.Objective.{sumHead, costTokens, objectiveTokens}
-use Rattle.emit.proofs.Tokens.{pen-then, room-first, room-then}
+use Rattle.emit.proofs.Tokens.{written-then, room-first, room-then}
 use Rattle.emit.proofs.objective.objective_and_end.Statement.{statement}
 use Rattle.emit.proofs.objective.objective_and_end.Tie as tie
 
@@ -60,7 +60,7 @@ same-length-2 c = omega (arith, c .before .before .before .before .before .befor
 returns : tie.Need-returns
 unfolding objectiveTokens
 returns c = let k = c .before .before .before .before .put .ensures in
-    rw (← c .before .before .before .before .before .before .before .before .before .before .before .before .before .before .before .before .before .before .before .before .before .before .before .before .header-costs .ensures, ← c .before .before .before .before .before .before .before .before .before .before .before .before .before .before .before .before .before .before .before .before .before .before .before .cost-count .ensures .0) (pen-then (c .before .before .before .before .before .before .before .before .before .before .before .before .before .before .before .before .before .before .before .before .objective-head .ensures) (pen-then (c .before .before .before .before .before .before .before .before .before .before .before .before .before .cost-terms .ensures) (record { words = k .words; numbers = k .numbers; parts = k .parts })))
+    rw (← c .before .before .before .before .before .before .before .before .before .before .before .before .before .before .before .before .before .before .before .before .before .before .before .before .header-costs .ensures, ← c .before .before .before .before .before .before .before .before .before .before .before .before .before .before .before .before .before .before .before .before .before .before .before .cost-count .ensures .0) (written-then (c .before .before .before .before .before .before .before .before .before .before .before .before .before .before .before .before .before .before .before .before .objective-head .ensures) (written-then (c .before .before .before .before .before .before .before .before .before .before .before .before .before .cost-terms .ensures) (record { words = k .words; numbers = k .numbers; parts = k .parts })))
 
 pub objective-and-end-spec : {M : Type 1} → statement M
 objective-and-end-spec =

@@ -8,7 +8,7 @@ use borrow.Author.Needs.{needs}
 use Rattle.base.specs.Loop.{each}
 use Rattle.network.specs.Network.{branchAt}
 use Rattle.acopf.specs.Parts.{branchParts}
-use Rattle.emit.specs.Tokens.{Token, Penned, partTokens}
+use Rattle.emit.specs.Tokens.{Token, Written, partTokens}
 use Rattle.emit.proofs.Tokens.{turns-none, turns-step, turns-room}
 use Rattle.emit.proofs.Pieces.{branch-is, branches-in}
 use Rattle.emit.proofs.parts.branch_flows.Statement.{statement}
@@ -22,7 +22,7 @@ at-is ws b e = omega (arith, branch-is ws b, branch-is ws 0)
 
 abbrev Inv-loop : tie.InvT-loop
 Inv-loop words numbers sizes start file₀ constants₀ m next₀ b₀ file constants next b =
-    (b ≤ m) × (length file ≡ length file₀) × (length constants ≡ length constants₀) × Penned file₀ constants₀ next₀ (each b (one words numbers)) file constants next
+    (b ≤ m) × (length file ≡ length file₀) × (length constants ≡ length constants₀) × Written file₀ constants₀ next₀ (each b (one words numbers)) file constants next
 
 abbrev μ-loop : tie.MeasureT-loop
 μ-loop words numbers sizes start file₀ constants₀ m next₀ b₀ file constants next b = m - b

@@ -1,6 +1,6 @@
 use native.Mathlib.Omega.{arith}
 use borrow.Author.Needs.{needs}
-use Rattle.emit.proofs.Tokens.{pen-then}
+use Rattle.emit.proofs.Tokens.{written-then}
 use Rattle.emit.proofs.parts.branch_parts.Statement.{statement}
 use Rattle.emit.proofs.parts.branch_parts.Tie as tie
 
@@ -56,7 +56,7 @@ same-length-2 : tie.Need-same-length-2
 same-length-2 c = omega (arith, c .before .before .before .before .before .before .before .before .before .before .before .before .before .before .before .before .before .before .voltage-parts .kept, c .before .before .before .before .before .before .before .before .before .before .before .flow-parts .kept, c .before .before .before .before .flow-parts2 .kept)
 
 returns : tie.Need-returns
-returns c = pen-then (c .before .before .before .before .before .before .before .before .before .before .before .before .before .before .before .before .before .before .voltage-parts .ensures) (pen-then (c .before .before .before .before .before .before .before .before .before .before .before .flow-parts .ensures) (c .before .before .before .before .flow-parts2 .ensures))
+returns c = written-then (c .before .before .before .before .before .before .before .before .before .before .before .before .before .before .before .before .before .before .voltage-parts .ensures) (written-then (c .before .before .before .before .before .before .before .before .before .before .before .flow-parts .ensures) (c .before .before .before .before .flow-parts2 .ensures))
 
 pub branch-parts-spec : {M : Type 1} → statement M
 branch-parts-spec =

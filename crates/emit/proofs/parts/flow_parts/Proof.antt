@@ -5,7 +5,7 @@ use lib.Ieee.{Float}
 use borrow.Author.Needs.{needs}
 use Rattle.emit.specs.Tokens.{Token, partTokens}
 use Rattle.emit.specs.Parts.{flowSum}
-use Rattle.emit.proofs.Tokens.{pen-then, room-first, room-then}
+use Rattle.emit.proofs.Tokens.{written-then, room-first, room-then}
 use Rattle.emit.proofs.parts.flow_parts.Statement.{statement}
 use Rattle.emit.proofs.parts.flow_parts.Tie as tie
 
@@ -43,7 +43,7 @@ same-length-2 : tie.Need-same-length-2
 same-length-2 c = omega (arith, c .before .before .before .before .before .before .before .before .before .before .before .flow-part .kept, c .before .before .before .before .flow-part2 .kept)
 
 returns : tie.Need-returns
-returns c = pen-then (c .before .before .before .before .before .before .before .before .before .before .before .flow-part .ensures) (c .before .before .before .before .flow-part2 .ensures)
+returns c = written-then (c .before .before .before .before .before .before .before .before .before .before .before .flow-part .ensures) (c .before .before .before .before .flow-part2 .ensures)
 
 pub flow-parts-spec : {M : Type 1} → statement M
 flow-parts-spec =

@@ -8,7 +8,7 @@ use Rattle.acopf.specs.Build.{square}
 use Rattle.acopf.specs.Parts.{branchParts}
 use Rattle.emit.specs.Tokens.{Token, partTokens}
 use Rattle.emit.specs.Parts.{sharedTokens}
-use Rattle.emit.proofs.Tokens.{pen-then, room-first, room-then}
+use Rattle.emit.proofs.Tokens.{written-then, room-first, room-then}
 use Rattle.emit.proofs.parts.shared_parts.Statement.{statement}
 use Rattle.emit.proofs.parts.shared_parts.Tie as tie
 
@@ -34,7 +34,7 @@ same-length-2 c = omega (arith, c .before .before .before .before .before .befor
 
 returns : tie.Need-returns
 unfolding sharedTokens
-returns c = pen-then (c .before .before .before .before .before .before .before .before .before .before .before .vm-squared .ensures) (c .before .before .before .before .branch-flows .ensures)
+returns c = written-then (c .before .before .before .before .before .before .before .before .before .before .before .vm-squared .ensures) (c .before .before .before .before .branch-flows .ensures)
 
 pub shared-parts-spec : {M : Type 1} → statement M
 shared-parts-spec =

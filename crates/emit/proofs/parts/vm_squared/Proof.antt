@@ -7,7 +7,7 @@ use borrow.Author.Needs.{needs}
 use Rattle.base.specs.Loop.{each}
 use Rattle.nl.specs.Expr.{column}
 use Rattle.acopf.specs.Build.{square}
-use Rattle.emit.specs.Tokens.{Token, Penned, partTokens}
+use Rattle.emit.specs.Tokens.{Token, Written, partTokens}
 use Rattle.emit.proofs.Tokens.{turns-none, turns-step, turns-room}
 use Rattle.emit.proofs.parts.vm_squared.Statement.{statement}
 use Rattle.emit.proofs.parts.vm_squared.Tie as tie
@@ -17,7 +17,7 @@ one n i = partTokens 10 (square (column (n + i)) ∷ [])
 
 abbrev Inv-loop : tie.InvT-loop
 Inv-loop n file₀ constants₀ next₀ i₀ file constants next i =
-    (i ≤ n) × (length file ≡ length file₀) × (length constants ≡ length constants₀) × Penned file₀ constants₀ next₀ (each i (one n)) file constants next
+    (i ≤ n) × (length file ≡ length file₀) × (length constants ≡ length constants₀) × Written file₀ constants₀ next₀ (each i (one n)) file constants next
 
 abbrev μ-loop : tie.MeasureT-loop
 μ-loop n file₀ constants₀ next₀ i₀ file constants next i = n - i

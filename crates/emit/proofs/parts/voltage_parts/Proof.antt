@@ -1,7 +1,7 @@
 use native.Mathlib.Omega.{arith}
 use Rattle.emit.specs.Tokens.{partTokens}
 use Rattle.emit.specs.Parts.{angleParts, productParts}
-use Rattle.emit.proofs.Tokens.{pen-then, room-first, room-then}
+use Rattle.emit.proofs.Tokens.{written-then, room-first, room-then}
 use Rattle.emit.proofs.parts.voltage_parts.Statement.{statement}
 use Rattle.emit.proofs.parts.voltage_parts.Tie as tie
 
@@ -18,7 +18,7 @@ same-length-2 : tie.Need-same-length-2
 same-length-2 c = omega (arith, c .before .before .before .before .before .before .before .before .before .before .before .angle-parts .kept, c .before .before .before .before .product-parts .kept)
 
 returns : tie.Need-returns
-returns c = pen-then (c .before .before .before .before .before .before .before .before .before .before .before .angle-parts .ensures) (c .before .before .before .before .product-parts .ensures)
+returns c = written-then (c .before .before .before .before .before .before .before .before .before .before .before .angle-parts .ensures) (c .before .before .before .before .product-parts .ensures)
 
 pub voltage-parts-spec : {M : Type 1} → statement M
 voltage-parts-spec =

@@ -1,6 +1,6 @@
 use native.Mathlib.Omega.{arith}
 use borrow.Author.Needs.{needs}
-use Rattle.emit.proofs.Tokens.{penned-none}
+use Rattle.emit.proofs.Tokens.{written-none}
 use Rattle.emit.proofs.rows.angle_row.Statement.{statement}
 use Rattle.emit.proofs.rows.angle_row.Tie as tie
 
@@ -32,7 +32,7 @@ returns : tie.Need-returns
 returns c = let k = c .before .before .before .before .put .ensures in rw (c .before .before .before .before .before .before .before .before .before .before .before .before .if1 .taken) (record { words = rw (c .before .before .before .before .before .before .before .before .before .model-word .ensures, c .before .before .before .before .before .before .before .before .model-word2 .ensures, c .before .before .before .before .before .before .before .model-word3 .ensures) at (k .words); numbers = k .numbers; parts = k .parts })
 
 returns-2 : tie.Need-returns-2
-returns-2 c = rw (c .if1 .left) (penned-none _ _ _)
+returns-2 c = rw (c .if1 .left) (written-none _ _ _)
 
 pub angle-row-spec : {M : Type 1} → statement M
 angle-row-spec =

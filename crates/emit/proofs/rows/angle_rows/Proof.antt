@@ -9,7 +9,7 @@ use Rattle.base.specs.Loop.{each, keep}
 use Rattle.nl.specs.Expr.{column}
 use Rattle.network.specs.Word.{branchFrom, branchTo, branchAngled}
 use Rattle.acopf.specs.Build.{subtract}
-use Rattle.emit.specs.Tokens.{Penned, partTokens}
+use Rattle.emit.specs.Tokens.{Written, partTokens}
 use Rattle.emit.specs.Rows.{angleTokens}
 use Rattle.emit.proofs.Tokens.{turns-none, turns-step, turns-room}
 use Rattle.emit.proofs.rows.angle_rows.Statement.{statement}
@@ -21,7 +21,7 @@ row-is ws first b e d h = rw (e, d, h)
 
 abbrev Inv-loop : tie.InvT-loop
 Inv-loop words first m file₀ constants₀ next₀ b₀ file constants next b =
-    (b ≤ m) × (length file ≡ length file₀) × (length constants ≡ length constants₀) × Penned file₀ constants₀ next₀ (each b (angleTokens words first)) file constants next
+    (b ≤ m) × (length file ≡ length file₀) × (length constants ≡ length constants₀) × Written file₀ constants₀ next₀ (each b (angleTokens words first)) file constants next
 
 abbrev μ-loop : tie.MeasureT-loop
 μ-loop words first m file₀ constants₀ next₀ b₀ file constants next b = m - b

@@ -7,7 +7,7 @@ use borrow.Author.Needs.{needs}
 use Rattle.base.specs.Loop.{each}
 use Rattle.nl.specs.Expr.{column}
 use Rattle.network.specs.Word.{referenceBus}
-use Rattle.emit.specs.Tokens.{Penned, partTokens}
+use Rattle.emit.specs.Tokens.{Written, partTokens}
 use Rattle.emit.specs.Rows.{referenceTokens}
 use Rattle.emit.proofs.Tokens.{turns-none, turns-step, turns-room}
 use Rattle.emit.proofs.rows.reference_rows.Statement.{statement}
@@ -18,7 +18,7 @@ row-is ws first i e = rw e
 
 abbrev Inv-loop : tie.InvT-loop
 Inv-loop words first count file₀ constants₀ next₀ i₀ file constants next i =
-    (i ≤ count) × (length file ≡ length file₀) × (length constants ≡ length constants₀) × Penned file₀ constants₀ next₀ (each i (referenceTokens words first)) file constants next
+    (i ≤ count) × (length file ≡ length file₀) × (length constants ≡ length constants₀) × Written file₀ constants₀ next₀ (each i (referenceTokens words first)) file constants next
 
 abbrev μ-loop : tie.MeasureT-loop
 μ-loop words first count file₀ constants₀ next₀ i₀ file constants next i = count - i

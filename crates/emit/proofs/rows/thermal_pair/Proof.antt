@@ -5,7 +5,7 @@ use lib.Ieee.{Float}
 use borrow.Author.Needs.{needs}
 use Rattle.emit.specs.Tokens.{Token, partTokens}
 use Rattle.emit.specs.Rows.{thermalOf}
-use Rattle.emit.proofs.Tokens.{penned-none, pen-then, room-first, room-then}
+use Rattle.emit.proofs.Tokens.{written-none, written-then, room-first, room-then}
 use Rattle.emit.proofs.rows.thermal_pair.Statement.{statement}
 use Rattle.emit.proofs.rows.thermal_pair.Tie as tie
 
@@ -37,10 +37,10 @@ same-length-2 : tie.Need-same-length-2
 same-length-2 c = omega (arith, c .before .before .before .before .before .before .before .before .before .before .before .thermal-row .kept, c .before .before .before .before .thermal-row2 .kept)
 
 returns : tie.Need-returns
-returns c = rw (c .before .before .before .before .before .before .before .before .before .before .before .before .before .before .if1 .taken) (pen-then (c .before .before .before .before .before .before .before .before .before .before .before .thermal-row .ensures) (c .before .before .before .before .thermal-row2 .ensures))
+returns c = rw (c .before .before .before .before .before .before .before .before .before .before .before .before .before .before .if1 .taken) (written-then (c .before .before .before .before .before .before .before .before .before .before .before .thermal-row .ensures) (c .before .before .before .before .thermal-row2 .ensures))
 
 returns-2 : tie.Need-returns-2
-returns-2 c = rw (c .if1 .left) (penned-none _ _ _)
+returns-2 c = rw (c .if1 .left) (written-none _ _ _)
 
 pub thermal-pair-spec : {M : Type 1} → statement M
 thermal-pair-spec =

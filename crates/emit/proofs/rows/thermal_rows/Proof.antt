@@ -4,7 +4,7 @@ use mathlib.Core.Path.{_≡_}
 use lib.ListN.{length}
 use borrow.Author.Needs.{needs}
 use Rattle.base.specs.Loop.{each}
-use Rattle.emit.specs.Tokens.{Penned}
+use Rattle.emit.specs.Tokens.{Written}
 use Rattle.emit.specs.Rows.{thermalTokens}
 use Rattle.emit.proofs.Tokens.{turns-none, turns-step, turns-room}
 use Rattle.emit.proofs.Pieces.{thermal-is}
@@ -13,7 +13,7 @@ use Rattle.emit.proofs.rows.thermal_rows.Tie as tie
 
 abbrev Inv-loop : tie.InvT-loop
 Inv-loop words numbers first n start m file₀ constants₀ next₀ b₀ file constants next b =
-    (b ≤ m) × (length file ≡ length file₀) × (length constants ≡ length constants₀) × Penned file₀ constants₀ next₀ (each b (thermalTokens words numbers first n start)) file constants next
+    (b ≤ m) × (length file ≡ length file₀) × (length constants ≡ length constants₀) × Written file₀ constants₀ next₀ (each b (thermalTokens words numbers first n start)) file constants next
 
 abbrev μ-loop : tie.MeasureT-loop
 μ-loop words numbers first n start m file₀ constants₀ next₀ b₀ file constants next b = m - b

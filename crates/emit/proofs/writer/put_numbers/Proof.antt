@@ -10,8 +10,8 @@ use Rattle.base.specs.Section.{Wrote}
 use Rattle.emit.specs.Tokens.{throughBits}
 use Rattle.base.proofs.Sections.{wrote-none, take-step}
 use Rattle.emit.proofs.Tokens.{bits-take}
-use Rattle.emit.proofs.pen.put_numbers.Statement.{statement}
-use Rattle.emit.proofs.pen.put_numbers.Tie as tie
+use Rattle.emit.proofs.writer.put_numbers.Statement.{statement}
+use Rattle.emit.proofs.writer.put_numbers.Tie as tie
 
 abbrev Inv-loop : tie.InvT-loop
 Inv-loop list₀ at numbers i₀ list i =

@@ -1,4 +1,4 @@
-// A pen goes through both lists at once: where the next word and the next constant go, which is also that constant's running number,
+// A writer goes through both lists at once: where the next word and the next constant go, which is also that constant's running number,
 // and the running number of the next shared part or row.
 ghost use mathlib.Core.List.{map};
 ghost use Prim.Native.Nat.{_+_, _≤_};
@@ -6,7 +6,7 @@ ghost use lib.ListN.{length};
 ghost use Rattle.base.specs.Section.{Wrote};
 ghost use Rattle.emit.specs.Tokens.{Put, throughBits};
 
-pub struct Pen {
+pub struct Writer {
     pub word: usize,
     pub constant: usize,
     pub part: usize,
@@ -41,23 +41,24 @@ fn put_numbers(list: &mut [f64], at: usize, numbers: &[f64]) -> usize
 pub(crate) fn put(
     file: &mut [u32],
     constants: &mut [f64],
-    pen: Pen,
+    writer: Writer,
     words: &[u32],
     numbers: &[f64],
     begun: usize,
-) -> Pen
-    requires { ⌜ (pen .word + length (now words) ≤ length (now file)) × (pen .constant + length (now numbers) ≤ length (now constants))
-        × (pen .part + begun ≤ 268435456) ⌝ }
-    ensures { λ r. ⌜ Put (now (file .entry)) (now (constants .entry)) pen (now (words .entry)) (now (numbers .entry)) begun
+) -> Writer
+    requires { ⌜ (writer .word + length (now words) ≤ length (now file))
+        × (writer .constant + length (now numbers) ≤ length (now constants))
+        × (writer .part + begun ≤ 268435456) ⌝ }
+    ensures { λ r. ⌜ Put (now (file .entry)) (now (constants .entry)) writer (now (words .entry)) (now (numbers .entry)) begun
         (now (file .exit)) (now (constants .exit)) r ⌝ }
 {
-    let word = pen.word;
-    let constant = pen.constant;
+    let word = writer.word;
+    let constant = writer.constant;
     let next_word = put_words(file, word, words);
     let next_constant = put_numbers(constants, constant, numbers);
-    Pen {
+    Writer {
         word: next_word,
         constant: next_constant,
-        part: pen.part + begun,
+        part: writer.part + begun,
     }
 }

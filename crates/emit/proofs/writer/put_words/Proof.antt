@@ -5,8 +5,8 @@ use lib.ListN.{length, take}
 use borrow.Author.Needs.{needs}
 use Rattle.base.specs.Section.{Wrote}
 use Rattle.base.proofs.Sections.{wrote-none, take-step, take-done}
-use Rattle.emit.proofs.pen.put_words.Statement.{statement}
-use Rattle.emit.proofs.pen.put_words.Tie as tie
+use Rattle.emit.proofs.writer.put_words.Statement.{statement}
+use Rattle.emit.proofs.writer.put_words.Tie as tie
 
 abbrev Inv-loop : tie.InvT-loop
 Inv-loop list₀ at words i₀ list i =
