@@ -1,0 +1,13 @@
+pub mod Integer
+pub mod Grid
+pub mod Units
+pub mod Rounded
+pub mod Folds
+pub mod AtMost
+pub mod Excess
+pub mod Tight
+pub mod Fraction
+pub mod Products
+pub mod Near
+pub mod Counts
+pub mod Overflow
