@@ -8,6 +8,7 @@ pub mod Excess
 pub mod Tight
 pub mod Fraction
 pub mod Products
+pub mod Quotient
 pub mod Near
 pub mod Counts
 pub mod Overflow
