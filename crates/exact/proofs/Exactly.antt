@@ -19,10 +19,9 @@ use Rattle.rounding.specs.Units.{units, size, above, excess}
 use Rattle.rounding.proofs.Rounded.{sub-within}
 use Rattle.rounding.proofs.AtMost.{at-most-units}
 use Rattle.rounding.proofs.Excess.{excess-within, above-exact, below-exact}
-use Rattle.hypot_error.specs.Exact.{exactSquare, Upper}
 use Rattle.hypot_error.proofs.Within.{hypot-within, hypot-within-unit}
 use Rattle.fdlibm.specs.Hypot.{hypotenuse}
-use Rattle.network.specs.Network.{buses, generators, branches, from, to, angled, limited, curved, epigraphsBefore, columns, epigraphColumn, angleMin, angleMax, sMax}
+use Rattle.network.specs.Network.{buses, generators, branches, angled, limited, curved, epigraphsBefore, columns, epigraphColumn, angleMin, angleMax, sMax}
 use Rattle.network.proofs.Places.{and-left, and-right}
 use Rattle.network.proofs.Right.{lower-right, upper-right, angle-right, rating-right}
 use Rattle.acopf.specs.Columns.{columnLower, columnUpper}
@@ -36,7 +35,7 @@ use Rattle.validate.specs.Check.{tiny64, tolerances, checked}
 use Rattle.accepted.specs.Accepted.{Sound, Kept}
 use Rattle.accepted.proofs.Kept.{flow-fits, answered-exactly-kept}
 use Rattle.accepted.proofs.Obeyed.{obeyed-exactly}
-use Rattle.exact.specs.Exactly.{UpTo, Rated, KeptExactly}
+use Rattle.exact.specs.Exactly.{UpTo, Rated, difference, exactDifference, KeptExactly, RatingsExact}
 use Rattle.exact.proofs.Fits.{lower-fits, upper-fits, p-balance-fits, q-balance-fits, curve-fits, own-fits}
 use Rattle.exact.proofs.Objective.{objective-within}
 
@@ -98,12 +97,6 @@ module _ (ws : List ℕ) (xs x : List Float) (solver : Float) (lent : ℕ) (D : 
         excess-within _ _ tiny64 (P j) (upper-fits ws xs D j l) tiny-fits (column-finite j l) f tiny-finite (K .upper j l)
 
     module _ (b : ℕ) (inside : b < branches ws) where
-      abbrev fromAngle : Float
-      fromAngle = va ws x (from ws b)
-
-      abbrev toAngle : Float
-      toAngle = va ws x (to ws b)
-
       module _ (on : angled ws b ≡ true) where
         lowest : isFinite (angleMin ws xs b) ≡ true
         lowest = lower-right _ _ (angle-right ws xs (tables-clear ws xs (S .network)) b inside on)
@@ -111,20 +104,20 @@ module _ (ws : List ℕ) (xs x : List Float) (solver : Float) (lent : ℕ) (D : 
         highest : isFinite (angleMax ws xs b) ≡ true
         highest = upper-right _ _ (angle-right ws xs (tables-clear ws xs (S .network)) b inside on)
 
-        difference-finite : isFinite (fromAngle ⊖ toAngle) ≡ true
+        difference-finite : isFinite (difference ws x b) ≡ true
         difference-finite = between _ _ _ tiny64 lowest highest tiny-finite (K .angle-lower b inside on) (K .angle-upper b inside on)
 
-        angle-low : UpTo (excess (angleMin ws xs b) (fromAngle ⊖ toAngle)) tiny64
+        angle-low : UpTo (excess (angleMin ws xs b) (difference ws x b)) tiny64
         angle-low = excess-within _ _ tiny64 (D _) (sub-fits binary64 _ _) tiny-fits lowest difference-finite tiny-finite (K .angle-lower b inside on)
 
-        angle-high : UpTo (excess (fromAngle ⊖ toAngle) (angleMax ws xs b)) tiny64
+        angle-high : UpTo (excess (difference ws x b) (angleMax ws xs b)) tiny64
         angle-high = excess-within _ _ tiny64 (sub-fits binary64 _ _) (D _) tiny-fits difference-finite highest tiny-finite (K .angle-upper b inside on)
 
-        angles-low : 2 ^ 53 * above (units (angleMin ws xs b) -ℤ (units fromAngle -ℤ units toAngle)) ≤ (2 ^ 53 + 1) * size tiny64 + size (fromAngle ⊖ toAngle)
-        angles-low = above-exact (units (angleMin ws xs b)) (units (fromAngle ⊖ toAngle)) (units fromAngle -ℤ units toAngle) _ _ (sub-within _ _ (P _) (P _) difference-finite) angle-low
+        angles-low : 2 ^ 53 * above (units (angleMin ws xs b) -ℤ exactDifference ws x b) ≤ (2 ^ 53 + 1) * size tiny64 + size (difference ws x b)
+        angles-low = above-exact (units (angleMin ws xs b)) (units (difference ws x b)) (exactDifference ws x b) _ _ (sub-within _ _ (P _) (P _) difference-finite) angle-low
 
-        angles-high : 2 ^ 53 * above (units fromAngle -ℤ units toAngle -ℤ units (angleMax ws xs b)) ≤ (2 ^ 53 + 1) * size tiny64 + size (fromAngle ⊖ toAngle)
-        angles-high = below-exact (units (angleMax ws xs b)) (units (fromAngle ⊖ toAngle)) (units fromAngle -ℤ units toAngle) _ _ (sub-within _ _ (P _) (P _) difference-finite) angle-high
+        angles-high : 2 ^ 53 * above (exactDifference ws x b -ℤ units (angleMax ws xs b)) ≤ (2 ^ 53 + 1) * size tiny64 + size (difference ws x b)
+        angles-high = below-exact (units (angleMax ws xs b)) (units (difference ws x b)) (exactDifference ws x b) _ _ (sub-within _ _ (P _) (P _) difference-finite) angle-high
 
       module _ (on : rated ws xs b ≡ true) where
         finite-rating : isFinite (sMax ws xs b) ≡ true
@@ -184,18 +177,19 @@ module _ (ws : List ℕ) (xs x : List Float) (solver : Float) (lent : ℕ) (D : 
   pub obeyed-keeps-exactly : packed (fault (checked ws xs x solver lent .number) (checked ws xs x solver lent .place)) ≡ 0 → KeptExactly ws xs x solver tolerances
   obeyed-keeps-exactly z = let h = obeyed-exactly ws xs x solver lent .0 z in kept-exactly (h .0) (h .1)
 
--- ---- the ratings alone, with the table's tolerance
+-- ---- the ratings, with the table's tolerance
 
 large : (s : ℕ) → 2 ^ 52 < s + size tiny64
 large s = let t = tiny-large in omega arith
 
--- 2^106 * (u(p)^2 + u(q)^2) is at most ((2^53 + 5) * (u(s_max) + u(tolerance)))^2, at the from end and at the to end
-module _ (ws : List ℕ) (xs x : List Float) (solver : Float) (b : ℕ) where
-  abbrev pub RatingExact : Type 0
-  RatingExact =
-      Upper 5 (exactSquare (pFrom (flows ws xs x) b) (qFrom (flows ws xs x) b)) (size (sMax ws xs b) + size tiny64)
-      × Upper 5 (exactSquare (pTo (flows ws xs x) b) (qTo (flows ws xs x) b)) (size (sMax ws xs b) + size tiny64)
-
-  pub rating-exact : KeptExactly ws xs x solver tolerances → b < branches ws → rated ws xs b ≡ true → RatingExact
+module _ (ws : List ℕ) (xs x : List Float) (solver : Float) where
+  pub rating-exact : KeptExactly ws xs x solver tolerances → RatingsExact ws xs x tiny64
   unfolding tolerances
-  rating-exact E l on = (E .rating-from b l on .usual (large (size (sMax ws xs b))), E .rating-to b l on .usual (large (size (sMax ws xs b))))
+  rating-exact E b l on = (E .rating-from b l on .usual (large (size (sMax ws xs b))), E .rating-to b l on .usual (large (size (sMax ws xs b))))
+
+  module _ (lent : ℕ) (D : Doubles xs) (P : Doubles x) (O : T (fits binary64 solver)) where
+    pub rating-answered : checked ws xs x solver lent .number ≡ 0 → RatingsExact ws xs x tiny64
+    rating-answered z = rating-exact (answered-keeps-exactly ws xs x solver lent D P O z)
+
+    pub rating-obeyed : packed (fault (checked ws xs x solver lent .number) (checked ws xs x solver lent .place)) ≡ 0 → RatingsExact ws xs x tiny64
+    rating-obeyed z = rating-exact (obeyed-keeps-exactly ws xs x solver lent D P O z)
