@@ -173,7 +173,7 @@ module _ (ws : List ℕ) (xs x : List Float) (solver : Float) (lent : ℕ) (D : 
   pub answered-keeps-exactly : checked ws xs x solver lent .number ≡ 0 → KeptExactly ws xs x solver tolerances
   answered-keeps-exactly z = let h = answered-exactly-kept ws xs x solver lent .0 z in kept-exactly (h .0) (h .1)
 
-  -- the one number across the C boundary, what validate_check returns
+  -- and the one number that the check gives across the C boundary
   pub obeyed-keeps-exactly : packed (fault (checked ws xs x solver lent .number) (checked ws xs x solver lent .place)) ≡ 0 → KeptExactly ws xs x solver tolerances
   obeyed-keeps-exactly z = let h = obeyed-exactly ws xs x solver lent .0 z in kept-exactly (h .0) (h .1)
 
