@@ -241,7 +241,8 @@ fn pick<'a, T>(random: &mut Random, list: &'a mut [T]) -> Option<&'a mut T> {
     list.get_mut(i)
 }
 
-/// Sets one branch's s_max to its larger flow less the tolerance, or next to it.
+/// Sets one branch's s_max to its larger flow less the tolerance, or next to it; or to within 2^-38 of one end's flow, on either side.
+/// At 2^-41 above a flow the check's quick test (crate thermal) passes from one answer to the other.
 fn rate(random: &mut Random, net: &mut Net, x: &[f64], off: f64) {
     use crate::answers::{self, Network};
     let Network::Compiled(compiled) = answers::network(&net.words(), &net.numbers()) else {
@@ -256,9 +257,16 @@ fn rate(random: &mut Random, net: &mut Net, x: &[f64], off: f64) {
     }
     let b = random.below(m);
     let flow = |part: usize| answer.outputs[2 * n + part * m + b];
-    let most = flow(0).hypot(flow(1)).max(flow(2).hypot(flow(3)));
+    let ends = [flow(0).hypot(flow(1)), flow(2).hypot(flow(3))];
+    let rating = if random.chance(500) {
+        ends[0].max(ends[1]) - off
+    } else {
+        let widest = 0.5f64.powi(38);
+        let apart = random.between(-widest, widest);
+        random.one_of(&ends) * (1.0 + random.one_of(&[0.0, 0.125 * widest, apart, apart]))
+    };
     net.branches[b].limited = true;
-    net.branches[b].numbers[10] = beside(random, most - off);
+    net.branches[b].numbers[10] = beside(random, rating);
 }
 
 /// A point of a wrong length, not finite, or with a solver's objective that is not finite.

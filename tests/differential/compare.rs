@@ -225,6 +225,7 @@ fn check_accepted(
                 *tally.places.entry(kind).or_default() += 1;
             }
         }
+        rated(case, answer, n, m, tally);
     }
     if refusal.0 == 14 {
         let kind = if answered.error.is_none() {
@@ -250,6 +251,24 @@ fn check_accepted(
     one_check(case, needed - 1, (12, 1), None, tally, differences);
     if number % 64 == 0 {
         one_check(case, 0, (12, 1), None, tally, differences);
+    }
+}
+
+/// Counts the ends of branches whose flow is within 2^-38 of an active rating.
+fn rated(case: &Case, answer: &Answer, n: usize, m: usize, tally: &mut Tally) {
+    let first = case.numbers.len() - 11 * m;
+    let branches = case.words.iter().filter(|&&word| word >> 28 == 4);
+    for (b, word) in branches.enumerate() {
+        let s_max = case.numbers[first + 11 * b + 10];
+        for end in [0, 2] {
+            let flow = |part: usize| answer.outputs[2 * n + part * m + b];
+            let over = flow(end).hypot(flow(end + 1)) - s_max;
+            if word >> 25 & 1 == 1 && s_max > 0.0 && over.abs() <= s_max * 0.5f64.powi(38) {
+                let side = if over > 0.0 { "above" } else { "not above" };
+                let kind = format!("flow within 2^-38 of its rating, {side}");
+                *tally.places.entry(kind).or_default() += 1;
+            }
+        }
     }
 }
 

@@ -133,14 +133,6 @@ signed-not nan h = absurd h
 signed-not (inf t) h = rw h
 signed-not (fin t m e) h = rw h
 
-pub above-signed : (x : Float) → lt zero64 x ≡ true → Signed false x
-unfolding lt ofBits
-above-signed nan h = absurd (false≢true h)
-above-signed (inf true) h = absurd (false≢true h)
-above-signed (inf false) h = refl
-above-signed (fin true m e) h = absurd (false≢true h)
-above-signed (fin false m e) h = refl
-
 infinity-not : (x : Float) → lt (inf false) x ≡ false
 unfolding lt
 infinity-not nan = refl

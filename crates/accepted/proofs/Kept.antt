@@ -13,6 +13,7 @@ use Rattle.base.specs.Fault.{clear}
 use Rattle.base.proofs.Loops.{getD-table, Block, loop-keeps, tally-counts}
 use Rattle.float.specs.Number.{_⊖_, _⊘_, zero64, one64, isFinite, absolute, maximum}
 use Rattle.float.proofs.Really.{Number, cond-number, inf-number, finite-number, absolute-number, absolute-finite, plus-finite, less-finite, finite-less, times-finite}
+use Rattle.float.proofs.Signs.{above-signed}
 use Rattle.fdlibm.specs.Hypot.{hypotenuse}
 use Rattle.fdlibm.proofs.HypotNumber.{hypotenuse-number}
 use Rattle.network.specs.Network.{buses, generators, branches, from, to, angled, limited, curved, segments, curveAt, epigraphsBefore, columns, pgColumn, epigraphColumn, angleMin, angleMax, sMax}
@@ -30,7 +31,7 @@ use Rattle.validate.specs.Check.{tiny64, checkFault, checked}
 use Rattle.derived.specs.Outputs.{va, pg, epigraph, withdrawn, pInjection, qInjection, ownObjective, flows, pFrom, qFrom, pTo, qTo, outputs}
 use Rattle.residuals.specs.Residuals.{pBalance, qBalance}
 use Rattle.accepted.proofs.Accepts.{accepted-exactly, answered-exactly, zero-within, within-violation, within-cut}
-use Rattle.accepted.proofs.Floats.{at-most, most-not, maximum-either, maximum-not, above-signed, less-kept, at-least-one, over-one}
+use Rattle.accepted.proofs.Floats.{at-most, most-not, maximum-either, maximum-not, less-kept, at-least-one, over-one}
 use Rattle.derived.proofs.Outputs.{outputs-at}
 
 tiny-number : Number tiny64

@@ -1,4 +1,4 @@
--- The two roots of the hypotenuse's medium size are numbers: what stands under each is a number and not negative, since every sum in it is of one sign, and no factor is an infinity.
+-- The two roots of the hypotenuse's medium size are numbers that are not negative: what stands under each is a number and not negative, since every sum in it is of one sign, and no factor is an infinity.
 use mathlib.Core.Path.{_≡_, refl, sym, ap, _∙_}
 use mathlib.Core.Bool.{Bool, true, false}
 use Prim.Native.Nat.{ℕ, _+_, _-_, _*_, _^_, _≤_, _<_}
@@ -10,12 +10,12 @@ use lib.Ieee.{Float, binary64, ofBits, neg, round, add, sub, unlike}
 use lib.Ieee.Fits.{sub-fits}
 use lib.Ieee.Scale.{round-same}
 use Rattle.float.specs.Number.{_⊕_, _⊖_, _⊗_, isFinite}
-use Rattle.float.proofs.Really.{Number, Signed, round-signed, finite-number, less-finite}
+use Rattle.float.proofs.Really.{Signed, round-signed, finite-number, less-finite}
 use Rattle.float.proofs.Signs.{add-signed, sub-signed, mul-signed, square-signed, opposite-signed}
 use Rattle.float.proofs.Values.{Units, Least, least-of, least-add, least-sub, sub-at, less-at, mul-at, round-units, value-neg}
 use Rattle.fdlibm.specs.Sqrt.{squareRoot}
 use Rattle.fdlibm.specs.Hypot.{fromHighWord, wide, close}
-use Rattle.fdlibm.proofs.RootNumber.{root-number}
+use Rattle.fdlibm.proofs.RootNumber.{root-signed}
 
 -- x is not negative, far from overflow, and no smaller than what h is the high word of
 pub record Cut (x : Float) (h : ℕ) : Type 0 where
@@ -51,11 +51,11 @@ product : (x y : Float) → Least x → Least y → Signed false (x ⊗ y)
 product x y h k = mul-signed false false x y (h .finite) (k .finite) (h .signed) (k .signed)
 
 -- a square less (what is not positive less what is not negative)
-root-of : (x y z : Float) → Signed false x → Signed true y → Signed false z → Number (squareRoot (x ⊖ (y ⊖ z)))
-root-of x y z h k l = root-number (x ⊖ (y ⊖ z)) (sub-signed false x (y ⊖ z) h (sub-signed true y z k l)) (sub-fits binary64 x (y ⊖ z))
+root-of : (x y z : Float) → Signed false x → Signed true y → Signed false z → Signed false (squareRoot (x ⊖ (y ⊖ z)))
+root-of x y z h k l = root-signed (x ⊖ (y ⊖ z)) (sub-signed false x (y ⊖ z) h (sub-signed true y z k l)) (sub-fits binary64 x (y ⊖ z))
 
-pub wide-number : (a b : Float) (ha : ℕ) → Cut a ha → isFinite b ≡ true → Number (wide a b ha)
-wide-number a b ha c f =
+pub wide-signed : (a b : Float) (ha : ℕ) → Cut a ha → isFinite b ≡ true → Signed false (wide a b ha)
+wide-signed a b ha c f =
     let t1 = fromHighWord ha in
     let t2 = a ⊖ t1 in
     let first = finite-number t1 (least-of t1 (c .part) (c .of-part) .finite) in
@@ -65,15 +65,15 @@ wide-number a b ha c f =
 
 -- where the last sum is not negative
 close-root : (a b : Float) (ha hb t y : ℕ) → isFinite a ≡ true → isFinite b ≡ true → Units (fromHighWord (ha + 0x00100000)) false t → Units (fromHighWord hb) false y
-    → Signed false (fromHighWord (ha + 0x00100000) ⊗ (b ⊖ fromHighWord hb) ⊕ (a ⊕ a ⊖ fromHighWord (ha + 0x00100000)) ⊗ b) → Number (close a b ha hb)
+    → Signed false (fromHighWord (ha + 0x00100000) ⊗ (b ⊖ fromHighWord hb) ⊕ (a ⊕ a ⊖ fromHighWord (ha + 0x00100000)) ⊗ b) → Signed false (close a b ha hb)
 close-root a b ha hb t y f g h k s =
     let t1 = fromHighWord (ha + 0x00100000) in
     let y1 = fromHighWord hb in
     let w = a ⊖ b in
     root-of (t1 ⊗ y1) (w ⊗ neg w) (t1 ⊗ (b ⊖ y1) ⊕ (a ⊕ a ⊖ t1) ⊗ b) (product t1 y1 (least-of t1 t h) (least-of y1 y k)) (opposite-signed w (less-finite a b (finite-number a f) g)) s
 
-pub close-number : (a b : Float) (ha hb : ℕ) → isFinite a ≡ true → Twice a ha → Cut b hb → Number (close a b ha hb)
-close-number a b ha hb f d c =
+pub close-signed : (a b : Float) (ha hb : ℕ) → isFinite a ≡ true → Twice a ha → Cut b hb → Signed false (close a b ha hb)
+close-signed a b ha hb f d c =
     let t1 = fromHighWord (ha + 0x00100000) in
     let y1 = fromHighWord hb in
     let lb = least-of b (c .size) (c .of-x) in
@@ -85,18 +85,18 @@ close-number a b ha hb f d c =
 
 -- ---- a zero and a subnormal, both of high word 0, the subnormal m * 2^-1074 scaled up: t2 is negative, and the last sum is zero
 
-abbrev least-normal : Float
+abbrev pub least-normal : Float
 least-normal = fromHighWord (0 + 0x00100000)
 
-least-units : Units least-normal false (2 ^ 52)
+pub least-units : Units least-normal false (2 ^ 52)
 unfolding ofBits
 least-units = (refl, refl)
 
-zero-units : Units (fromHighWord 0) false 0
+pub zero-units : Units (fromHighWord 0) false 0
 unfolding ofBits
 zero-units = (refl, refl)
 
-rest-is : fromHighWord 0 ⊕ fromHighWord 0 ⊖ least-normal ≡ neg least-normal
+pub rest-is : fromHighWord 0 ⊕ fromHighWord 0 ⊖ least-normal ≡ neg least-normal
 unfolding ofBits add sub neg round lib.Count.trailingZeros
 rest-is = refl
 
@@ -107,7 +107,7 @@ unlike-plus : (s : Bool) → unlike s false ≡ s
 unlike-plus true = refl
 unlike-plus false = refl
 
-scaled-down : (x b : Float) (s : Bool) (m : ℕ) → m < 2 ^ 53 → Units x s (2 ^ 52) → Units b false (m * 2 ^ 1022) → Units (x ⊗ b) s m
+pub scaled-down : (x b : Float) (s : Bool) (m : ℕ) → m < 2 ^ 53 → Units x s (2 ^ 52) → Units b false (m * 2 ^ 1022) → Units (x ⊗ b) s m
 scaled-down x b s m l h k =
     let d = 2 ^ 1074 in
     let z = pow-pos 1074 in
@@ -117,11 +117,11 @@ scaled-down x b s m l h k =
 less-zero : (n : ℕ) → n - 0 ≡ n
 less-zero n = omega arith
 
-less-nothing : (b y : Float) (n m k : ℕ) → n ≡ m * 2 ^ k → m < 2 ^ 53 → k ≤ 2045 → Units b false n → Units y false 0 → Units (b ⊖ y) false n
+pub less-nothing : (b y : Float) (n m k : ℕ) → n ≡ m * 2 ^ k → m < 2 ^ 53 → k ≤ 2045 → Units b false n → Units y false 0 → Units (b ⊖ y) false n
 less-nothing b y n m k e l u h z =
     rw (sub-at b y n 0 (2 ^ 1074) (pow-pos 1074) h z (omega arith), less-zero n) (round-units false n m k e l u)
 
-pub close-zero : (b : Float) (m : ℕ) → m < 2 ^ 53 → Units b false (m * 2 ^ 1022) → Number (close (fromHighWord 0) b 0 0)
+pub close-zero : (b : Float) (m : ℕ) → m < 2 ^ 53 → Units b false (m * 2 ^ 1022) → Signed false (close (fromHighWord 0) b 0 0)
 close-zero b m l h =
     let o = fromHighWord 0 in
     let t1 = least-normal in

@@ -1,15 +1,17 @@
--- The square root of a number that is not negative is a number.
-use mathlib.Core.Path.{refl, sym, _∙_}
-use mathlib.Core.Bool.{Bool, true, false, cond, true≢false}
+-- The square root of a number that is not negative is a number that is not negative.
+use mathlib.Core.Bool.{Bool, true, false, cond}
 use Prim.Native.Nat.{ℕ, zero, suc, _+_, _-_, _*_, _/_, _%_, _^_, _≤_, _<_}
 use native.Mathlib.Omega.{arith}
 use lib.Dec.{T, leb, eqb, ltb}
-use lib.Ieee.{Float, nan, inf, fin, binary64, isNan, ofBits, toBits, fits, neg, add, mul, ones, hid, top}
-use lib.Ieee.Bits.{nanBits-is, nanBits-above, toBits-lt}
+use lib.Ieee.{Float, nan, inf, fin, binary64, ofBits, toBits, fits, neg, top}
+use lib.Ieee.Bits.{toBits-lt}
 use lib.Ieee.Fits.{neg-fits}
-use borrow.Author.Tests.{le-ltb, lt-leb}
-use Rattle.float.specs.Number.{_⊕_, _⊗_, isFinite}
-use Rattle.float.proofs.Really.{Number, Signed, signed-number, cond-number, plus-finite, times-finite}
+use borrow.Author.Tests.{lt-leb}
+use Rattle.float.specs.Number.{_⊕_, _⊗_}
+use Rattle.float.proofs.Really.{Number, Signed, signed-number}
+use Rattle.float.proofs.Signs.{add-signed, square-signed}
+use Rattle.float.proofs.Values.{value-signed}
+use Rattle.float.proofs.Patterns.{worth, pattern-value}
 use Rattle.fdlibm.specs.declared.e_sqrt.Root.{Root}
 use Rattle.fdlibm.specs.Sqrt.{nextBit, bitByBit, start, rounded, evenExponent, rootOf, normalized, rootBits, squareRoot}
 
@@ -56,10 +58,6 @@ bits-le b h = go (eqb (b / 2 ^ 52) 0)
     go true = omega (arith, normalized-le 52 (b % 2 ^ 52) 1022)
     go false = omega (arith, root-le (b % 2 ^ 52 + 2 ^ 52) (b / 2 ^ 52 + 1021))
 
--- a pattern up to infinity's is a number's
-pattern-number : (n : ℕ) → n ≤ 2047 * 2 ^ 52 → Number (ofBits binary64 n)
-pattern-number n h = sym (nanBits-is binary64 n) ∙ nanBits-above binary64 n ∙ le-ltb (ones binary64 * hid binary64) (n % top binary64) (omega arith)
-
 -- ---- the root
 
 drop-sign : (a b : ℕ) → top binary64 + a + b < 2 * top binary64 → 0 + a + b < 2 ^ 63
@@ -73,17 +71,21 @@ plus-bits (fin s m e) h f =
     let f′ : T (fits binary64 (fin true m e)) = rw h at (neg-fits binary64 (fin s m e) f) in
     rw h (drop-sign _ _ (toBits-lt binary64 (fin true m e) f′))
 
-squared : (x : Float) → Signed false x → Number (x ⊗ x ⊕ x)
-unfolding mul add isFinite isNan
-squared nan h = absurd h
-squared (inf true) h = absurd (true≢false h)
-squared (inf false) h = refl
-squared (fin s m e) h = plus-finite (fin s m e ⊗ fin s m e) (fin s m e) (times-finite (fin s m e) (fin s m e) refl refl) refl
+squared : (x : Float) → Signed false x → Signed false (x ⊗ x ⊕ x)
+squared x h = add-signed false (x ⊗ x) x (square-signed x (signed-number false x h)) h
+
+pub cond-signed : (s b : Bool) (x y : Float) → Signed s x → Signed s y → Signed s (cond b x y)
+cond-signed s true x y h k = h
+cond-signed s false x y h k = k
+
+pub root-signed : (x : Float) → Signed false x → T (fits binary64 x) → Signed false (squareRoot x)
+unfolding squareRoot
+root-signed x h f =
+    let b = toBits binary64 x in
+    let l = bits-le b (plus-bits x h f) in
+    cond-signed false (eqb (b / 2 ^ 52 % 2 ^ 11) 0x7ff) (x ⊗ x ⊕ x) _ (squared x h)
+    (cond-signed false (eqb (b % 2 ^ 63) 0) x _ h
+    (rw (lt-leb (2 ^ 63) b (plus-bits x h f)) (value-signed (ofBits binary64 (rootBits b)) false (worth (rootBits b)) (2 ^ 1074) (pattern-value (rootBits b) (omega arith)))))
 
 pub root-number : (x : Float) → Signed false x → T (fits binary64 x) → Number (squareRoot x)
-unfolding squareRoot
-root-number x h f =
-    let b = toBits binary64 x in
-    cond-number (eqb (b / 2 ^ 52 % 2 ^ 11) 0x7ff) (x ⊗ x ⊕ x) _ (squared x h)
-    (cond-number (eqb (b % 2 ^ 63) 0) x _ (signed-number false x h)
-    (rw (lt-leb (2 ^ 63) b (plus-bits x h f)) (pattern-number (rootBits b) (omega (arith, bits-le b (plus-bits x h f))))))
+root-number x h f = signed-number false (squareRoot x) (root-signed x h f)

@@ -2,8 +2,8 @@
 use mathlib.Core.Path.{_≡_, refl, ap}
 use mathlib.Core.Bool.{Bool, true, false, not, Bool·beq, true≢false, false≢true}
 use Prim.Native.Nat.{ℕ, _+_, _*_}
-use lib.Ieee.{Float, nan, inf, fin, binary64, up, down, neg, isNan, sum, add, sub, mul, unlike}
-use Rattle.float.specs.Number.{_⊕_, _⊖_, _⊗_, isFinite}
+use lib.Ieee.{Float, nan, inf, fin, binary64, up, down, neg, lt, ofBits, isNan, sum, add, sub, mul, unlike}
+use Rattle.float.specs.Number.{_⊕_, _⊖_, _⊗_, zero64, isFinite}
 use Rattle.float.proofs.Really.{Number, Signed, round-signed}
 
 -- ---- sums
@@ -65,3 +65,12 @@ unfolding mul neg isNan
 opposite-signed nan h = absurd (true≢false h)
 opposite-signed (inf s) h = rw (beq-not s)
 opposite-signed (fin s m e) h = rw (beq-not s) (round-signed binary64 true (m * up e * (m * up e)) (down e * down e))
+
+-- a number above 0
+pub above-signed : (x : Float) → lt zero64 x ≡ true → Signed false x
+unfolding lt ofBits
+above-signed nan h = absurd (false≢true h)
+above-signed (inf true) h = absurd (false≢true h)
+above-signed (inf false) h = refl
+above-signed (fin true m e) h = absurd (false≢true h)
+above-signed (fin false m e) h = refl

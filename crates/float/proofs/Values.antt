@@ -7,14 +7,14 @@ use native.Mathlib.Nat.{add-mul, zero-mul, mul-sub, mul-le-mul-right, mul-one, m
 use lib.IntN.{pos}
 use lib.Dec.{T}
 use lib.Pow.{pow-pos, pow-mono, shl-lt}
-use lib.Ieee.{Float, nan, inf, fin, binary64, up, down, neg, le, round, sum, add, sub, mul, unlike, isNan}
+use lib.Ieee.{Float, nan, inf, fin, binary64, up, down, neg, le, round, sum, add, sub, mul, unlike}
 use lib.Ieee.Exact.{HasValue, round-exact}
 use lib.Ieee.Fits.{down-pos}
 use lib.Ieee.Order.{transfer, round-mono}
 use lib.Ieee.Scale.{round-same}
 use borrow.Author.Tests.{le-ltb, ne-eqb}
 use Rattle.float.specs.Number.{_⊕_, _⊖_, _⊗_, isFinite}
-use Rattle.float.proofs.Really.{Number, Signed, round-signed, round-number}
+use Rattle.float.proofs.Really.{Signed, round-signed}
 
 -- finite, of the sign s, and n / 2^1074 in size
 abbrev pub Units : Float → Bool → ℕ → Type 0
@@ -138,16 +138,16 @@ less-le a b c h = omega arith
 pub least-sub : (x y : Float) (a b : ℕ) → Units x false a → Units y false b → b ≤ a → a ≤ 2 ^ 1674 → Least (x ⊖ y)
 least-sub x y a b h k o l = rw (sub-at x y a b (2 ^ 1074) (pow-pos 1074) h k o) (least-round (a - b) (less-le a b (2 ^ 1674) l))
 
--- something finite but zero times a number
-pub times-number : (x y : Float) (s : Bool) (a c : ℕ) → HasValue x s a c → 0 < a → Number y → Number (x ⊗ y)
-unfolding mul isNan
-times-number nan y s a c h z k = absurd h
-times-number (inf t) y s a c h z k = absurd h
-times-number (fin t m e) nan s a c h z k = k
-times-number (fin t zero e) (inf u) s a c h z k =
+-- something finite above 0 times a number that is not negative
+pub times-signed : (x y : Float) (a c : ℕ) → HasValue x false a c → 0 < a → Signed false y → Signed false (x ⊗ y)
+unfolding mul
+times-signed nan y a c h z k = absurd h
+times-signed (inf t) y a c h z k = absurd h
+times-signed (fin t m e) nan a c h z k = absurd k
+times-signed (fin t zero e) (inf u) a c h z k =
     let p = mul-pos z (down-pos e) in
     let o : 0 * up e * c ≡ 0 = ap (λ (n : ℕ). n * c) (zero-mul (up e)) ∙ zero-mul c in
     let q = h .1 in
     absurd (omega arith)
-times-number (fin t (suc m) e) (inf u) s a c h z k = rw (ne-eqb (suc m) 0 (λ p. omega arith))
-times-number (fin t m e) (fin u n d) s a c h z k = round-number binary64 (unlike t u) (m * up e * (n * up d)) (down e * down d)
+times-signed (fin t (suc m) e) (inf u) a c h z k = rw (ne-eqb (suc m) 0 (λ p. omega arith), h .0, k)
+times-signed (fin t m e) (fin u n d) a c h z k = rw (h .0, k) (round-signed binary64 false (m * up e * (n * up d)) (down e * down d))

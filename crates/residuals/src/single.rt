@@ -97,9 +97,7 @@ fn thermal_limit(w: u32, s_max: f64, from: [f64; 2], to: [f64; 2], most: f64) ->
     let limited = network::branch_limited(w);
     let above = 0.0 < s_max;
     if limited & above {
-        let at_from = fdlibm::hypot(from[0], from[1]);
-        let at_to = fdlibm::hypot(to[0], to[1]);
-        let over = float::maximum(float::maximum(at_from, at_to) - s_max, 0.0);
+        let over = thermal::violation(from[0], from[1], to[0], to[1], s_max);
         return float::maximum(most, over);
     }
     most

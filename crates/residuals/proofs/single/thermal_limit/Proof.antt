@@ -5,35 +5,26 @@ use Rattle.residuals.proofs.single.thermal_limit.Tie as tie
 branch-limited-requires : tie.Need-branch-limited-requires
 branch-limited-requires c κs = search needs
 
-array-read-hypot : tie.Need-array-read-hypot
-array-read-hypot c = search needs
+array-read-violation : tie.Need-array-read-violation
+array-read-violation c = search needs
 
-array-read-hypot-2 : tie.Need-array-read-hypot-2
-array-read-hypot-2 c = search needs
+array-read-violation-2 : tie.Need-array-read-violation-2
+array-read-violation-2 c = search needs
 
-hypot-requires : tie.Need-hypot-requires
-hypot-requires c κs = search needs
+array-read-violation-3 : tie.Need-array-read-violation-3
+array-read-violation-3 c = search needs
 
-array-read-hypot-3 : tie.Need-array-read-hypot-3
-array-read-hypot-3 c = search needs
+array-read-violation-4 : tie.Need-array-read-violation-4
+array-read-violation-4 c = search needs
 
-array-read-hypot-4 : tie.Need-array-read-hypot-4
-array-read-hypot-4 c = search needs
-
-hypot-requires-2 : tie.Need-hypot-requires-2
-hypot-requires-2 c κs = search needs
+violation-requires : tie.Need-violation-requires
+violation-requires c κs = search needs
 
 maximum-requires : tie.Need-maximum-requires
 maximum-requires c κs = search needs
 
-maximum-requires-2 : tie.Need-maximum-requires-2
-maximum-requires-2 c κs = search needs
-
-maximum-requires-3 : tie.Need-maximum-requires-3
-maximum-requires-3 c κs = search needs
-
 returns : tie.Need-returns
-returns c = rw (← c .before .before .before .before .before .before .branch-limited .ensures, c .before .before .before .before .before .if1 .taken, c .maximum3 .ensures, c .before .maximum2 .ensures, c .before .before .maximum .ensures, c .before .before .before .hypot2 .ensures, c .before .before .before .before .hypot .ensures)
+returns c = rw (← c .before .before .before .branch-limited .ensures, c .before .before .if1 .taken, c .maximum .ensures, c .before .violation .ensures)
 
 returns-2 : tie.Need-returns-2
 returns-2 c = rw (← c .before .branch-limited .ensures, c .if1 .left)
@@ -43,14 +34,11 @@ thermal-limit-spec =
     tie.close
     (tie.spec
     branch-limited-requires
-    array-read-hypot
-    array-read-hypot-2
-    hypot-requires
-    array-read-hypot-3
-    array-read-hypot-4
-    hypot-requires-2
+    array-read-violation
+    array-read-violation-2
+    array-read-violation-3
+    array-read-violation-4
+    violation-requires
     maximum-requires
-    maximum-requires-2
-    maximum-requires-3
     returns
     returns-2)

@@ -1,0 +1,3 @@
+pub mod Fits
+pub mod Objective
+pub mod Exactly

@@ -1,0 +1,14 @@
+pub mod Integer
+pub mod Grid
+pub mod Units
+pub mod Rounded
+pub mod Folds
+pub mod AtMost
+pub mod Excess
+pub mod Tight
+pub mod Fraction
+pub mod Products
+pub mod Quotient
+pub mod Near
+pub mod Counts
+pub mod Overflow
