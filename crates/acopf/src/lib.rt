@@ -2,6 +2,7 @@
 mod complex;
 mod curve;
 mod flow;
+mod tallies;
 
 pub use base::Fault;
 pub use curve::curve_value;
@@ -10,3 +11,7 @@ pub use curve::slope_of;
 pub use flow::branch_row;
 pub use flow::coefficients;
 pub use flow::numeric_branch_flow;
+pub use tallies::Tallies;
+pub use tallies::counted;
+pub use tallies::row_segments;
+pub use tallies::tallies_of;
