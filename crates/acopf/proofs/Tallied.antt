@@ -1,12 +1,13 @@
 -- One turn of the passes that count: the definitions with one more.
 use mathlib.Core.Path.{_≡_, refl, ap, sym, _∙_}
-use mathlib.Core.Bool.{Bool, cond}
+use mathlib.Core.Bool.{Bool, cond, not, _&&_}
 use mathlib.Core.List.{List}
 use Prim.Native.Nat.{ℕ, suc, _+_, _-_, _*_, _≤_}
 use native.Mathlib.Numerals.{add-one}
 use lib.Ieee.{Float}
 use Rattle.base.specs.Loop.{loop, tally}
-use Rattle.network.specs.Network.{curved, angled, rated, epigraphsBefore}
+use Rattle.float.specs.Number.{_⊕_, zero64}
+use Rattle.network.specs.Network.{costs, curved, cost0, angled, rated, epigraphsBefore}
 use Rattle.network.specs.declared.layout.Layout.{Layout}
 use Rattle.network.specs.declared.records.Generator.{Generator}
 use Rattle.network.specs.declared.records.Branch.{Branch}
@@ -40,6 +41,18 @@ module _ (ws : List ℕ) where
   unfolding epigraphsBefore
   epigraphs-next g = tally-next (curved ws) g
 
+  -- the objective constant of the first g generators
+  abbrev pub costsBefore : List Float → ℕ → Float
+  costsBefore xs g = loop (λ c j. cond (costs ws && not (curved ws j)) (c ⊕ cost0 ws xs j) c) zero64 g
+
+  pub costs-none : (xs : List Float) → costsBefore xs 0 ≡ zero64
+  unfolding loop
+  costs-none xs = refl
+
+  pub costs-next : (xs : List Float) (g : ℕ) → costsBefore xs (g + 1) ≡ cond (costs ws && not (curved ws g)) (costsBefore xs g ⊕ cost0 ws xs g) (costsBefore xs g)
+  unfolding loop
+  costs-next xs g = rw add-one
+
 -- ---- the same by what the code holds
 
 module _ {ws : List ℕ} {xs : List Float} {l : Layout} where
@@ -50,6 +63,10 @@ module _ {ws : List ℕ} {xs : List Float} {l : Layout} where
   pub segments-turn : {g count r : ℕ} {p : Generator} → GeneratorRead ws xs l g p → r ≡ cond (p .curved) (p .points - 1) 0 → count ≡ segmentsBefore ws g
       → count + r ≡ segmentsBefore ws (g + 1)
   segments-turn {g} G e c = rw (e, G .is, c) (sym (segments-next ws g))
+
+  pub costs-turn : {g : ℕ} {sum r : Float} {p : Generator} → Laid ws xs l → GeneratorRead ws xs l g p
+      → r ≡ cond (l .costs && not (p .curved)) (sum ⊕ p .«cost_0») sum → sum ≡ costsBefore ws xs g → r ≡ costsBefore ws xs (g + 1)
+  costs-turn {g} L G e c = e ∙ rw (G .is, ap (λ x. x .costs) (L .words .is), c) (sym (costs-next ws xs g))
 
   pub angles-turn : {b count r : ℕ} {p : Branch} → BranchRead ws xs l b p → r ≡ cond (p .angled) (suc count) count → count ≡ tally b (angled ws)
       → r ≡ tally (b + 1) (angled ws)
