@@ -1,5 +1,5 @@
 -- A refusal of 1 to 11 is the first, and 11 looks at constants, objective constant and starts, in this order.
-use mathlib.Core.Path.{_≡_}
+use mathlib.Core.Path.{_≡_, refl}
 use mathlib.Core.List.{List, [], _∷_, _++_}
 use Prim.Native.Nat.{ℕ, suc, _+_, _-_, _<_}
 use native.Mathlib.Omega.{arith}
@@ -7,12 +7,15 @@ use native.Mathlib.Nat.{add-zero}
 use lib.ListN.{length, getD, List·getD-append}
 use lib.Seq.{getD-append-add}
 use lib.Ieee.{Float, nan}
-use Rattle.base.proofs.Firsts.{Clear, Spans, section, Says, Proper, or-proper, unless-proper, first-proper, spans-unless, spans-or, spans-first, spans-wide, refusal-is-first, FirstFail, first-fails}
+use Rattle.base.specs.Fault.{orElse, section}
+use Rattle.base.specs.Order.{IsFirst}
+use Rattle.base.proofs.Firsts.{Clear, Spans, Proper, or-proper, unless-proper, first-proper, spans-unless, spans-first, FirstFail, first-fails}
+use Rattle.base.proofs.Order.{AllGive, gives-one, give-append, first-append, refusal-is-first}
 use Rattle.float.specs.Number.{isFinite}
-use Rattle.network.specs.Fault.{faultTables}
-use Rattle.network.proofs.Order.{tables-spans}
+use Rattle.network.specs.Fault.{tableSections, faultTables}
+use Rattle.network.proofs.Order.{tables-give}
 use Rattle.acopf.specs.Columns.{columnStart}
-use Rattle.acopf.specs.Factor.{firstNonFinite, constants64, faultFactor, networkFault}
+use Rattle.acopf.specs.Factor.{firstNonFinite, constants64, faultFactor, networkSections, networkFault}
 use Rattle.acopf.specs.Model.{objectiveConstant}
 
 pub non-finite-spans : (number : ℕ) (l : List Float) → Spans number number (firstNonFinite number l)
@@ -48,17 +51,20 @@ module _ (ws : List ℕ) (xs : List Float) where
   unfolding faultFactor
   factor-spans = non-finite-spans 11 _
 
-  -- 11 only where 1 to 10 are clear; tables-refusal of network says which of those is first
-  pub network-refusal : (Clear (networkFault ws xs) → ⊥) → Says (networkFault ws xs) 0 (section 10 (faultTables ws xs)) (section 11 (faultFactor ws xs) ∷ [])
-  unfolding networkFault
-  network-refusal c =
-      refusal-is-first 0 (section 10 (faultTables ws xs)) (section 11 (faultFactor ws xs) ∷ []) (omega arith, tables-spans ws xs, (omega arith, factor-spans)) c
+  pub network-give : AllGive (networkSections ws xs)
+  network-give = give-append (tableSections ws xs) (section (11 ∷ []) (faultFactor ws xs) ∷ []) (tables-give ws xs) (gives-one factor-spans, tt)
 
-  pub network-spans : Spans 1 11 (networkFault ws xs)
+  -- of the eight sections of 1 to 10 and of 11
+  pub network-refusal : (Clear (networkFault ws xs) → ⊥) → IsFirst (networkFault ws xs) (networkSections ws xs)
   unfolding networkFault
-  network-spans = spans-or (spans-wide (omega arith) (omega arith) (tables-spans ws xs)) (spans-wide (omega arith) (omega arith) factor-spans)
+  network-refusal c = refusal-is-first (networkSections ws xs) network-give refl c
+
+  -- the first of 1 to 10, else 11
+  pub network-is : networkFault ws xs ≡ orElse (faultTables ws xs) (faultFactor ws xs)
+  unfolding networkFault faultTables
+  network-is = first-append (tableSections ws xs) (section (11 ∷ []) (faultFactor ws xs) ∷ []) tt
 
   -- a clear answer has place 0 too
   pub network-proper : Proper (networkFault ws xs)
-  unfolding networkFault faultFactor firstNonFinite
-  network-proper = or-proper _ _ (first-proper _ _ (λ i. unless-proper _ 11 i (omega arith)))
+  unfolding faultFactor firstNonFinite
+  network-proper = rw network-is (or-proper _ _ (first-proper _ _ (λ i. unless-proper _ 11 i (omega arith))))

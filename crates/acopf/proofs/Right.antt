@@ -28,6 +28,7 @@ use Rattle.acopf.specs.Model.{objective, objectiveConstant, model}
 use Rattle.acopf.specs.Parts.{sharedParts}
 use Rattle.acopf.specs.Rows.{Row, pBalance, qBalance, referenceRow, angleRow, thermalRows, segmentRow, segmentRows, rows}
 use Rattle.acopf.proofs.Finite.{non-finite-clear}
+use Rattle.acopf.proofs.Order.{network-is}
 
 huge-finite : isFinite huge64 ≡ true
 unfolding ofBits isFinite
@@ -102,15 +103,14 @@ came-back x f h = ap isFinite (sym (ofBits-toBits binary64 x f)) ∙ h
 
 module _ (ws : List ℕ) (xs : List Float) (accepted : networkFault ws xs ≡ clear) where
   pub tables-clear : Clear (faultTables ws xs)
-  unfolding networkFault
-  tables-clear = or-left _ _ (ap (λ f. f .number) accepted)
+  tables-clear = or-left (faultTables ws xs) (faultFactor ws xs) (ap (λ f. f .number) (sym (network-is ws xs) ∙ accepted))
 
   -- 11: constants, objective constant and starts are finite
   pub constants-finite : AllFinite (constants64 ws xs) × AllFinite (objectiveConstant ws xs ∷ columnStart ws xs)
-  unfolding networkFault faultFactor
+  unfolding faultFactor
   constants-finite =
       finite-append (constants64 ws xs) (objectiveConstant ws xs ∷ columnStart ws xs) .0
-      (non-finite-clear 11 _ (omega arith) .0 (or-right (faultTables ws xs) _ (ap (λ f. f .number) accepted)))
+      (non-finite-clear 11 _ (omega arith) .0 (or-right (faultTables ws xs) (faultFactor ws xs) (ap (λ f. f .number) (sym (network-is ws xs) ∙ accepted))))
 
   -- ---- the curves' slopes and intercepts are among them
 

@@ -1,14 +1,14 @@
 -- Document 01, refusal 11: "non-finite constant (its number), objective constant (number of constants), start (that + 1 + column)";
 -- and the first refusal of a network, 1 to 11.
 use Prim.Native.Nat.{ℕ}
-use mathlib.Core.List.{List, _∷_, _++_, map}
+use mathlib.Core.List.{List, [], _∷_, _++_, map}
 use lib.ListN.{length, getD}
 use lib.Ieee.{Float, nan, binary64, ofBits}
 use Rattle.base.specs.declared.Fault.{Fault}
-use Rattle.base.specs.Fault.{fault, unless, orElse, first}
+use Rattle.base.specs.Fault.{fault, unless, first, Section, section, firstOf}
 use Rattle.float.specs.Number.{isFinite}
 use Rattle.nl.specs.File.{modelConstants}
-use Rattle.network.specs.Fault.{faultTables}
+use Rattle.network.specs.Fault.{tableSections}
 use Rattle.acopf.specs.Columns.{columnStart}
 use Rattle.acopf.specs.Model.{objectiveConstant, model}
 
@@ -26,5 +26,8 @@ module _ (ws : List ℕ) (xs : List Float) where
   faultFactor = firstNonFinite 11 (constants64 ++ (objectiveConstant ws xs ∷ columnStart ws xs))
 
   -- "Order is by number, except that 8, 9, 10 are taken branch by branch"
+  abbrev pub networkSections : List Section
+  networkSections = tableSections ws xs ++ (section (11 ∷ []) faultFactor ∷ [])
+
   unfoldable pub networkFault : Fault
-  networkFault = orElse (faultTables ws xs) faultFactor
+  networkFault = firstOf networkSections

@@ -5,3 +5,4 @@ pub mod Turns
 pub mod Scans
 pub mod Totals
 pub mod Sections
+pub mod Order

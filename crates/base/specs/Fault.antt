@@ -1,7 +1,7 @@
 -- A refusal, its number and place (document 01, "Numbers a controller shows"), and the first of several.
 use Prim.Native.Nat.{ℕ, _+_, _-_, _*_, _^_, min}
 use mathlib.Core.Bool.{Bool, cond}
-use mathlib.Core.List.{List, _++_}
+use mathlib.Core.List.{List, [], _∷_, _++_}
 use lib.ListN.{length, drop}
 use lib.Dec.{eqb}
 use Rattle.base.specs.declared.Fault.{Fault}
@@ -24,6 +24,20 @@ orElse f later = cond (eqb (f .number) 0) later f
 unfoldable pub first : ℕ → (ℕ → Fault) → Fault
 unfolding loop
 first count f = loop (λ r i. orElse r (f i)) clear count
+
+-- a section of the refusals: the numbers that it gives and no other section does, and its fault
+pub record Section : Type 0 where
+  pub numbers : List ℕ
+  pub its : Fault
+
+abbrev pub section : List ℕ → Fault → Section
+section numbers f = record { numbers = numbers; its = f }
+
+-- the first of several sections, in the order in which they stand, which need not be that of their numbers
+abbrev pub firstOf : List Section → Fault
+firstOf [] = clear
+firstOf (s ∷ []) = s .its
+firstOf (s ∷ t ∷ later) = orElse (s .its) (firstOf (t ∷ later))
 
 -- document 00, condition 1: a lent list after the call has "the finished result in its named front part with the rest untouched, or, after a
 -- refusal, exactly what it held before"

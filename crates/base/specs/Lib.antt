@@ -2,3 +2,4 @@ pub mod Loop
 pub mod Word
 pub mod Fault
 pub mod Section
+pub mod Order

@@ -1,6 +1,6 @@
--- A refusal of 1 to 10 is the first: all of lower numbers are clear, and the answer is its own section's. 8, 9, 10 go branch by branch.
-use mathlib.Core.Path.{_≡_}
-use mathlib.Core.List.{List, [], _∷_}
+-- A refusal of 1 to 10 is the first: it is the fault of the section that has its number, and every section before is clear. 8, 9, 10 go branch by branch.
+use mathlib.Core.Path.{_≡_, refl}
+use mathlib.Core.List.{List}
 use mathlib.Core.Bool.{Bool, true, false, cond}
 use Prim.Native.Nat.{ℕ, _-_, _<_}
 use native.Mathlib.Omega.{arith}
@@ -8,9 +8,11 @@ use lib.ListN.{length}
 use lib.Dec.{eqb}
 use lib.Ieee.{Float}
 use Rattle.base.specs.Fault.{fault, unless, first}
-use Rattle.base.proofs.Firsts.{Clear, Spans, Section, section, InOrder, Says, spans-unless, spans-or, spans-first, spans-wide, first-is, refusal-is-first}
+use Rattle.base.specs.Order.{IsFirst}
+use Rattle.base.proofs.Firsts.{Clear, Spans, spans-unless, spans-or, spans-first, spans-wide, first-is}
+use Rattle.base.proofs.Order.{AllGive, gives-one, gives-span, refusal-is-first}
 use Rattle.network.specs.Network.{branches}
-use Rattle.network.specs.Fault.{wordRight, faultWords, faultSize, blanks, faultCount, faultBlank, faultCurve, faultShift, faultBounds, faultSpread, faultRating, faultSquare, branchFault, faultBranches, faultTables}
+use Rattle.network.specs.Fault.{wordRight, faultWords, faultSize, blanks, faultCount, faultBlank, faultCurve, faultShift, faultBounds, faultSpread, faultRating, faultSquare, branchSections, branchFault, faultBranches, tableSections, faultTables}
 
 module _ (ws : List ℕ) where
   words-spans : Spans 1 1 (faultWords ws)
@@ -78,51 +80,31 @@ module _ (ws : List ℕ) (xs : List Float) where
 
   -- ---- 1 to 10
 
-  abbrev pub tableSections : List Section
-  tableSections =
-      section 2 (faultSize ws) ∷ section 3 (faultCount ws xs) ∷ section 4 (faultBlank ws xs) ∷ section 5 (faultCurve ws xs)
-      ∷ section 6 (faultShift ws xs) ∷ section 7 (faultBounds ws xs) ∷ section 10 (faultBranches ws xs) ∷ []
-
-  tables-order : InOrder 0 (section 1 (faultWords ws)) tableSections
-  tables-order = (
-    omega arith,
-    words-spans ws,
+  pub tables-give : AllGive (tableSections ws xs)
+  tables-give = (
+    gives-one (words-spans ws),
     (
-      omega arith,
-      size-spans ws,
+      gives-one (size-spans ws),
       (
-        omega arith,
-        count-spans,
+        gives-one count-spans,
         (
-          omega arith,
-          blank-spans,
-          (
-            omega arith,
-            curve-spans,
-            (omega arith, shift-spans, (omega arith, bounds-spans, (omega arith, branches-spans))),
-          ),
+          gives-one blank-spans,
+          (gives-one curve-spans, (gives-one shift-spans, (gives-one bounds-spans, (gives-span 2 refl branches-spans, tt)))),
         ),
       ),
     ),
   )
 
-  -- where the network is refused, all sections of lower numbers are clear and the refusal is its own section's
-  pub tables-refusal : (Clear (faultTables ws xs) → ⊥) → Says (faultTables ws xs) 0 (section 1 (faultWords ws)) tableSections
+  pub tables-refusal : (Clear (faultTables ws xs) → ⊥) → IsFirst (faultTables ws xs) (tableSections ws xs)
   unfolding faultTables
-  tables-refusal c = refusal-is-first 0 (section 1 (faultWords ws)) tableSections tables-order c
-
-  pub tables-spans : Spans 1 10 (faultTables ws xs)
-  unfolding faultTables
-  tables-spans =
-      spans-or (spans-wide (omega arith) (omega arith) (words-spans ws)) (spans-or (spans-wide (omega arith) (omega arith) (size-spans ws)) (spans-or (spans-wide (omega arith) (omega arith) count-spans) (spans-or (spans-wide (omega arith) (omega arith) blank-spans) (spans-or (spans-wide (omega arith) (omega arith) curve-spans)
-      (spans-or (spans-wide (omega arith) (omega arith) shift-spans) (spans-or (spans-wide (omega arith) (omega arith) bounds-spans) (spans-wide (omega arith) (omega arith) branches-spans)))))))
+  tables-refusal c = refusal-is-first (tableSections ws xs) tables-give refl c
 
   -- ---- 8, 9, 10 branch by branch
 
   -- a refusal is some branch's, all branches before it are clear, and of its own three it is the first
   pub branches-refusal : (Clear (faultBranches ws xs) → ⊥)
       → (b : ℕ) × (b < branches ws) × (faultBranches ws xs ≡ branchFault ws xs b) × ((j : ℕ) → j < b → Clear (branchFault ws xs j))
-      × Says (branchFault ws xs b) 7 (section 8 (faultSpread ws xs b)) (section 9 (faultRating ws xs b) ∷ section 10 (faultSquare ws xs b) ∷ [])
+      × IsFirst (branchFault ws xs b) (branchSections ws xs b)
   unfolding faultBranches branchFault
   branches-refusal c =
       let (b, l, e, k) = first-is (branches ws) (branchFault ws xs) c in (
@@ -130,7 +112,6 @@ module _ (ws : List ℕ) (xs : List Float) where
         l,
         e,
         k,
-        refusal-is-first 7 (section 8 (faultSpread ws xs b)) (section 9 (faultRating ws xs b) ∷ section 10 (faultSquare ws xs b) ∷ [])
-            (omega arith, spread-spans b, (omega arith, rating-spans b, (omega arith, square-spans b)))
+        refusal-is-first (branchSections ws xs b) (gives-one (spread-spans b), (gives-one (rating-spans b), (gives-one (square-spans b), tt))) refl
             (λ z. c (rw e z)),
       )

@@ -1,13 +1,13 @@
 -- Document 01, "Numbers a controller shows": refusals 1 to 10 of a network, each with its place, and their order.
 use Prim.Native.Nat.{ℕ, _+_, _-_, _*_}
 use mathlib.Core.Bool.{Bool, cond, not, _&&_, _||_}
-use mathlib.Core.List.{List}
+use mathlib.Core.List.{List, [], _∷_}
 use lib.ListN.{length, getD}
 use lib.Dec.{eqb, leb}
 use lib.Ieee.{Float, lt}
 use Rattle.base.specs.Word.{kindOf}
 use Rattle.base.specs.declared.Fault.{Fault}
-use Rattle.base.specs.Fault.{fault, unless, orElse, first}
+use Rattle.base.specs.Fault.{fault, unless, orElse, first, Section, section, firstOf}
 use Rattle.float.specs.Number.{_⊗_, zero64, isFinite}
 use Rattle.network.specs.Limits.{mostBuses, mostGenerators, mostBranches, mostReferences, mostPoints}
 use Rattle.network.specs.Word.{loadRight}
@@ -80,15 +80,22 @@ module _ (ws : List ℕ) (xs : List Float) where
   unfoldable pub faultSquare : ℕ → Fault
   faultSquare b = unless (not (limited ws b) || isFinite (sMax ws xs b ⊗ sMax ws xs b)) (fault 10 b)
 
+  abbrev pub branchSections : ℕ → List Section
+  branchSections b = section (8 ∷ []) (faultSpread b) ∷ section (9 ∷ []) (faultRating b) ∷ section (10 ∷ []) (faultSquare b) ∷ []
+
   unfoldable pub branchFault : ℕ → Fault
-  branchFault b = orElse (faultSpread b) (orElse (faultRating b) (faultSquare b))
+  branchFault b = firstOf (branchSections b)
 
   -- "8, 9, 10 are taken branch by branch"
   unfoldable pub faultBranches : Fault
   faultBranches = first (branches ws) branchFault
 
-  -- the first of 1 to 10
+  -- 1 to 10 in their order
+  abbrev pub tableSections : List Section
+  tableSections =
+      section (1 ∷ []) (faultWords ws) ∷ section (2 ∷ []) (faultSize ws) ∷ section (3 ∷ []) faultCount ∷ section (4 ∷ []) faultBlank
+      ∷ section (5 ∷ []) faultCurve ∷ section (6 ∷ []) faultShift ∷ section (7 ∷ []) faultBounds ∷ section (8 ∷ 9 ∷ 10 ∷ []) faultBranches ∷ []
+
+  -- the first of them
   unfoldable pub faultTables : Fault
-  faultTables =
-      orElse (faultWords ws) (orElse (faultSize ws) (orElse faultCount (orElse faultBlank (orElse faultCurve
-      (orElse faultShift (orElse faultBounds faultBranches))))))
+  faultTables = firstOf tableSections
