@@ -4,6 +4,7 @@ use mathlib.Core.Bool.{Bool, cond, not, _&&_}
 use mathlib.Core.List.{List}
 use Prim.Native.Nat.{ℕ, suc, _+_, _-_, _*_, _≤_}
 use native.Mathlib.Numerals.{add-one}
+use native.Mathlib.Omega.{arith}
 use lib.Ieee.{Float}
 use Rattle.base.specs.Loop.{loop, tally}
 use Rattle.float.specs.Number.{_⊕_, zero64}
@@ -12,7 +13,7 @@ use Rattle.network.specs.declared.layout.Layout.{Layout}
 use Rattle.network.specs.declared.records.Generator.{Generator}
 use Rattle.network.specs.declared.records.Branch.{Branch}
 use Rattle.network.specs.Layout.{Laid, GeneratorRead, BranchRead}
-use Rattle.network.specs.Limits.{mostPoints}
+use Rattle.network.specs.Limits.{mostPoints, mostGenerators, mostBranches}
 use Rattle.acopf.specs.Tallies.{rowSegments, segmentsBefore, Tallied}
 use Rattle.acopf.specs.declared.tallies.Tallies.{Tallies}
 
@@ -92,3 +93,15 @@ module _ {ws : List ℕ} {xs : List Float} {l : Layout} where
         few-segments = rw k at ls;
         few-epigraphs = rw k at le;
       }
+
+  -- the counts in the code's terms
+  pub few : {t : Tallies} → Laid ws xs l → Tallied ws xs t
+      → (t .angles ≤ mostBranches) × (t .rated ≤ mostBranches) × (t .segments ≤ mostPoints * mostGenerators) × (t .epigraphs ≤ l .generators)
+  few L T =
+      let m = ap (λ x. x .branches) (L .words .is) in
+      let k = ap (λ x. x .generators) (L .words .is) in (
+        omega (arith, T .few-angles, L .words .few-branches),
+        omega (arith, T .few-rated, L .words .few-branches),
+        omega (arith, T .few-segments, L .words .few-generators),
+        omega (arith, T .few-epigraphs),
+      )
