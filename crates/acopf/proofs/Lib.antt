@@ -4,3 +4,4 @@ pub mod Leaves
 pub mod Order
 pub mod Finite
 pub mod Right
+pub mod Tallied

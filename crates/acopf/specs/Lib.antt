@@ -8,3 +8,4 @@ pub mod Model
 pub mod Factor
 pub mod Leaf
 pub mod Prepared
+pub mod Tallies

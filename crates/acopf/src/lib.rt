@@ -1,12 +1,25 @@
 // The AC optimal power flow model: what compile_ac_opf_model builds and validate_primal starts from.
+mod columns;
 mod complex;
 mod curve;
 mod flow;
+mod objective;
+mod tallies;
 
 pub use base::Fault;
+pub use columns::epigraph_start;
+pub use columns::generator_start;
+pub use columns::lower_bound;
+pub use columns::upper_bound;
 pub use curve::curve_value;
 pub use curve::intercept_of;
 pub use curve::slope_of;
 pub use flow::branch_row;
 pub use flow::coefficients;
 pub use flow::numeric_branch_flow;
+pub use objective::objective_constant;
+pub use objective::objective_constants;
+pub use tallies::Tallies;
+pub use tallies::counted;
+pub use tallies::row_segments;
+pub use tallies::tallies_of;

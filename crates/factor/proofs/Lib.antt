@@ -4,3 +4,4 @@ pub mod Fine
 pub mod Factors
 pub mod Steps
 pub mod Chain
+pub mod Refusal

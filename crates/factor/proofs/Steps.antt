@@ -1,5 +1,5 @@
 -- One turn of each loop over generators and branches: the definitions with one more.
-use mathlib.Core.Path.{_≡_, refl, sym, _∙_}
+use mathlib.Core.Path.{_≡_, refl, ap, sym, _∙_}
 use mathlib.Core.Bool.{Bool, true, false, cond, not, _&&_, _||_, false≢true}
 use mathlib.Core.List.{List}
 use Prim.Native.Nat.{ℕ, zero, suc, _+_, _-_, _*_, _<_, _≤_}
@@ -19,53 +19,23 @@ use Rattle.network.specs.Network.{buses, generators, costs, points, number, cur
 use Rattle.network.specs.Word.{generatorPoints, generatorBounded, branchLimited}
 use Rattle.network.specs.Bounds.{huge64, clampStart}
 use Rattle.network.proofs.Good.{good, generator-next}
+use Rattle.network.specs.declared.layout.Layout.{Layout}
+use Rattle.network.specs.declared.records.Generator.{Generator}
+use Rattle.network.specs.Layout.{Laid, GeneratorRead}
 use Rattle.acopf.specs.Columns.{pgLower, pgUpper, pgStart, epigraphStart}
 use Rattle.acopf.specs.Curve.{evaluate}
+use Rattle.acopf.specs.Flow.{branchCoefficients}
+use Rattle.acopf.specs.Leaf.{coefficientsAt}
+use Rattle.acopf.proofs.Leaves.{coefficients-at}
 use Rattle.factor.specs.NonFinite.{coefficientsFault, curveFault, rowSegments, segmentsBefore}
 use Rattle.acopf.specs.Rows.{rated}
+pub use Rattle.acopf.proofs.Tallied.{tally-none, tally-next, segments-none, segments-next, epigraphs-none, epigraphs-next, costsBefore, costs-none, costs-next}
 
 -- a curve that counts has points
 pub curved-some : (priced : Bool) (points : ℕ) → priced && not (eqb points 0) ≡ true → 0 < points
 curved-some false points h = absurd (false≢true h)
 curved-some true zero h = absurd (false≢true h)
 curved-some true (suc p) h = omega arith
-
-pub tally-none : (t : ℕ → Bool) → tally 0 t ≡ 0
-unfolding tally loop
-tally-none t = refl
-
-pub tally-next : (t : ℕ → Bool) (i : ℕ) → tally (i + 1) t ≡ cond (t i) (suc (tally i t)) (tally i t)
-unfolding tally loop
-tally-next t i = rw add-one
-
-module _ (ws : List ℕ) where
-  pub segments-none : segmentsBefore ws 0 ≡ 0
-  unfolding segmentsBefore loop
-  segments-none = refl
-
-  pub segments-next : (g : ℕ) → segmentsBefore ws (g + 1) ≡ segmentsBefore ws g + rowSegments ws g
-  unfolding segmentsBefore loop
-  segments-next g = rw add-one
-
-  pub epigraphs-none : epigraphsBefore ws 0 ≡ 0
-  unfolding epigraphsBefore
-  epigraphs-none = tally-none (curved ws)
-
-  pub epigraphs-next : (g : ℕ) → epigraphsBefore ws (g + 1) ≡ cond (curved ws g) (suc (epigraphsBefore ws g)) (epigraphsBefore ws g)
-  unfolding epigraphsBefore
-  epigraphs-next g = tally-next (curved ws) g
-
-  -- the objective constant of the first g generators
-  abbrev pub costsBefore : List Float → ℕ → Float
-  costsBefore xs g = loop (λ c j. cond (costs ws && not (curved ws j)) (c ⊕ cost0 ws xs j) c) zero64 g
-
-  pub costs-none : (xs : List Float) → costsBefore xs 0 ≡ zero64
-  unfolding loop
-  costs-none xs = refl
-
-  pub costs-next : (xs : List Float) (g : ℕ) → costsBefore xs (g + 1) ≡ cond (costs ws && not (curved ws g)) (costsBefore xs g ⊕ cost0 ws xs g) (costsBefore xs g)
-  unfolding loop
-  costs-next xs g = rw add-one
 
 -- ---- the same by what the code holds
 
@@ -165,3 +135,39 @@ curve-proper ws xs start g = first-proper _ _ (λ s. or-proper _ _ (unless-prope
 pub coefficients-proper : (cs : List Float) (place : ℕ) → Proper (coefficientsFault cs place)
 unfolding coefficientsFault
 coefficients-proper cs place = first-proper _ _ (λ c. unless-proper _ 11 _ (omega arith))
+
+-- ---- the same over the layout
+
+module _ {ws : List ℕ} {xs : List Float} {l : Layout} where
+  pub curve-read : (start : ℕ) {g count place : ℕ} {p : Generator} → GeneratorRead ws xs l g p → count ≡ cond (p .curved) (p .points - 1) 0
+      → place ≡ start + 2 * segmentsBefore ws g → curveFault xs (p .curve) count place ≡ curveFactor ws xs start g
+  curve-read start G c h = rw (c, h, G .is)
+
+  pub place-read : (start : ℕ) {g count place : ℕ} {p : Generator} → GeneratorRead ws xs l g p → count ≡ cond (p .curved) (p .points - 1) 0
+      → place ≡ start + 2 * segmentsBefore ws g → place + 2 * count ≡ start + 2 * segmentsBefore ws (g + 1)
+  place-read start {g} {count} G c h =
+      let e : count ≡ rowSegments ws g = c ∙ rw (G .is) in
+      rw (segments-next ws g) (omega arith)
+
+  pub epigraph-read : (start : ℕ) {g place : ℕ} {p : Generator} {v : Float} → Laid ws xs l → GeneratorRead ws xs l g p
+      → v ≡ evaluate xs (p .curve) (p .points - 1) (clampStart (p .pg) (cond (p .bounded) (p .«p_min») (neg huge64)) (cond (p .bounded) (p .«p_max») huge64))
+      → place ≡ start + (2 * l .buses + 2 * l .generators) + epigraphsBefore ws g
+      → unless (not (p .curved) || isFinite v) (fault 11 place) ≡ epigraphFactor ws xs start g
+  unfolding epigraphStart pgStart pgLower pgUpper
+  epigraph-read start {g} {place} {p} {v} L G e h =
+      let same : v ≡ epigraphStart ws xs g = e ∙ rw (G .is) in
+      let there : place ≡ start + epigraphColumn ws g = omega (arith, ap (λ x. x .buses) (L .words .is), ap (λ x. x .generators) (L .words .is)) in
+      rw (same, there, G .is)
+
+  pub column-read : (a : ℕ) {g place r : ℕ} {p : Generator} → GeneratorRead ws xs l g p → r ≡ cond (p .curved) (suc place) place → place ≡ a + epigraphsBefore ws g
+      → r ≡ a + epigraphsBefore ws (g + 1)
+  column-read a {g} G e c = place-turn ws g a (ap (λ x. x .curved) (G .is)) e c
+
+-- a segment that has rows lies in its curve
+pub segment-fits : (on : Bool) {count s p : ℕ} → count ≡ cond on (p - 1) 0 → s < count → s + 2 ≤ p
+segment-fits true e l = omega arith
+segment-fits false e l = absurd (omega arith)
+
+pub coefficients-read : (ws : List ℕ) (xs : List Float) (b place : ℕ) {at : ℕ} {cs : List Float} → cs ≡ coefficientsAt xs at → at ≡ branchAt ws b
+    → coefficientsFault cs place ≡ coefficientsFault (branchCoefficients ws xs b) place
+coefficients-read ws xs b place e a = ap (λ c. coefficientsFault c place) (e ∙ rw a (sym (coefficients-at ws xs b)))

@@ -1,1 +1,2 @@
 pub mod NonFinite
+pub mod Judged

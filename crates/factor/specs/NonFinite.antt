@@ -1,18 +1,22 @@
 -- On the way to refusal 11: the numbers of a model that can be non-finite, each with its place. Its definition is in Factor; that no other
 -- number can be is a law of proofs/Factors.
 use Prim.Native.Nat.{ℕ, _+_, _*_}
-use mathlib.Core.Bool.{cond, not, _||_}
+use mathlib.Core.Bool.{not, _||_}
 use mathlib.Core.List.{List}
-use lib.ListN.{getD}
+use lib.ListN.{length, getD}
 use lib.Ieee.{Float, nan}
 use Rattle.base.specs.declared.Fault.{Fault}
 use Rattle.base.specs.Fault.{fault, unless, orElse, first}
-use Rattle.base.specs.Loop.{loop}
+use Rattle.base.specs.Loop.{tally}
 use Rattle.float.specs.Number.{isFinite}
-use Rattle.network.specs.Network.{branches, generators, curved, segments, curveAt, epigraphColumn}
+use Rattle.network.specs.Network.{buses, branches, generators, curved, curveAt, rated, epigraphColumn}
 use Rattle.acopf.specs.Columns.{epigraphStart}
+use Rattle.acopf.specs.Factor.{constants64}
+use Rattle.acopf.specs.Model.{objectiveConstant}
 use Rattle.acopf.specs.Curve.{slope, intercept}
 use Rattle.acopf.specs.Flow.{branchCoefficients}
+pub use Rattle.acopf.specs.Tallies.{rowSegments}
+unfoldable pub use Rattle.acopf.specs.Tallies.{segmentsBefore}
 
 abbrev pub nonFinite : Float → ℕ → Fault
 nonFinite x place = unless (isFinite x) (fault 11 place)
@@ -25,14 +29,6 @@ coefficientsFault cs place = first 12 (λ c. nonFinite (getD cs c nan) (place + 
 unfoldable pub curveFault : List Float → ℕ → ℕ → ℕ → Fault
 curveFault xs at count place = first count (λ s. orElse (nonFinite (slope xs at s) (place + 2 * s)) (nonFinite (intercept xs at s) (place + 2 * s + 1)))
 
-module _ (ws : List ℕ) where
-  -- a curve's segments count under header 1
-  abbrev pub rowSegments : ℕ → ℕ
-  rowSegments g = cond (curved ws g) (segments ws g) 0
-
-  unfoldable pub segmentsBefore : ℕ → ℕ
-  segmentsBefore g = loop (λ count j. count + rowSegments j) 0 g
-
 module _ (ws : List ℕ) (xs : List Float) where
   unfoldable pub branchesFactor : Fault
   branchesFactor = first (branches ws) (λ b. coefficientsFault (branchCoefficients ws xs b) (12 * b))
@@ -42,3 +38,9 @@ module _ (ws : List ℕ) (xs : List Float) where
 
   unfoldable pub epigraphsFactor : ℕ → Fault
   epigraphsFactor place = first (generators ws) (λ g. unless (not (curved ws g) || isFinite (epigraphStart ws xs g)) (fault 11 (place + epigraphColumn ws g)))
+
+  -- what follows the branches' coefficients: the curves' constants, the objective constant, the epigraphs' starts
+  abbrev pub curvesOn : Fault
+  curvesOn =
+      orElse (curvesFactor (4 * buses ws + 16 * branches ws + 2 * tally (branches ws) (rated ws xs)))
+      (orElse (nonFinite (objectiveConstant ws xs) (length (constants64 ws xs))) (epigraphsFactor (length (constants64 ws xs) + 1)))

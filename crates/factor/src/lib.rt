@@ -1,8 +1,12 @@
 // Refusal 11, by the leaves that the model is made of and in time linear in the network, and the first refusal of a network.
+mod by_place;
 mod columns;
 mod count;
 mod factor;
+mod first;
 
+pub use by_place::epigraph_start;
+pub use by_place::objective_constant;
 pub use columns::generator_start;
 pub use columns::lower_bound;
 pub use columns::upper_bound;
@@ -14,6 +18,6 @@ pub use count::objective_constants;
 pub use count::rated_count;
 pub use count::row_segments;
 pub use count::segment_count;
-pub use factor::epigraph_start;
-pub use factor::network_fault;
-pub use factor::objective_constant;
+pub use first::Judged;
+pub use first::judge;
+pub use first::network_fault;

@@ -1,84 +1,110 @@
 use native.Mathlib.Omega.{arith}
-use mathlib.Core.Path.{_≡_, refl, sym, _∙_}
+use mathlib.Core.Path.{_≡_, sym, ap, _∙_}
 use Prim.Native.Nat.{_+_, _-_, _*_, _≤_}
-use Rattle.network.specs.Network.{generatorAt}
-use Rattle.network.proofs.Good.{generator-zero}
 use Rattle.base.specs.Fault.{first}
-use Rattle.base.proofs.Firsts.{Clear}
+use Rattle.base.proofs.Firsts.{Clear, unless-proper}
 use Rattle.base.proofs.Turns.{first-none, first-step, first-here, first-done}
+use Rattle.network.specs.Layout.{Standing}
 use Rattle.factor.specs.NonFinite.{segmentsBefore, curvesFactor}
-use Rattle.factor.proofs.Steps.{room, generators-turn, segments-none, segments-turn, curveFactor, curve-is, curve-proper}
+use Rattle.factor.proofs.Steps.{segments-none, segment-fits, curveFactor, curve-read, place-read, curve-proper}
 use borrow.Author.Needs.{needs}
 use Rattle.factor.proofs.factor.curves_factor.Statement.{statement}
 use Rattle.factor.proofs.factor.curves_factor.Tie as tie
+use Rattle.factor.proofs.factor.curves_factor.Reads as reads
+use Rattle.factor.proofs.factor.curves_factor.Lts as lts
+use Rattle.acopf.proofs.row_segments.Reads as row-segments-reads
+use Rattle.factor.proofs.factor.curve_fault.Reads as curve-fault-reads
+use Rattle.network.proofs.first_generator.Reads as first-generator-reads
+use Rattle.network.proofs.next_generator.Reads as next-generator-reads
+use Rattle.network.proofs.generator_of.Reads as generator-of-reads
 
 abbrev Inv-loop : tie.InvT-loop
-Inv-loop words numbers n k priced start at₀ place₀ g₀ at place g = (g ≤ k) × (at ≡ generatorAt words g) × (place ≡ start + 2 * segmentsBefore words g) × (place ≤ start + 62 * g) × Clear (first g (curveFactor words numbers start))
+Inv-loop words numbers layout start place₀ cursor₀ place cursor =
+    Standing words layout cursor × (place ≡ start + 2 * segmentsBefore words (cursor .index)) × (place ≤ start + 32 * cursor .index)
+    × Clear (first (cursor .index) (curveFactor words numbers start))
 
 abbrev μ-loop : tie.MeasureT-loop
-μ-loop words numbers n k priced start at₀ place₀ g₀ at place g = k - g
+μ-loop words numbers layout start place₀ cursor₀ place cursor = layout .generators - cursor .index
 
-mul-at : tie.Need-mul-at Inv-loop μ-loop
-mul-at c = let R = room _ _ (c .before .before .pre .4) (c .before .before .pre .0) (c .before .before .pre .1) in omega arith
+-- src/factor.rt:118:9
+first-generator-requires : tie.Need-first-generator-requires Inv-loop μ-loop
+first-generator-requires c κs = search needs
 
+-- src/factor.rt:119:5
 loop-holds : tie.Need-loop-holds Inv-loop μ-loop
-loop-holds c = (omega arith, rw (c .before .before .pre .0) (sym (generator-zero _)), omega (arith, segments-none (c .before .before .args .words .now)), omega arith, first-none _)
+loop-holds c =
+    let first = c .first-generator .ensures in (
+      first .0,
+      rw (first .1) (omega (arith, segments-none (c .before .before .before .args .words .now))),
+      omega arith,
+      rw (first .1) (first-none _),
+    )
 
-add-generator-points : tie.Need-add-generator-points Inv-loop μ-loop
-add-generator-points c = let R = room _ _ (c .before .before .before .before .pre .4) (c .before .before .before .before .pre .0) (c .before .before .before .before .pre .1) in omega arith
+-- src/factor.rt:120:13
+generator-of-requires : tie.Need-generator-of-requires Inv-loop μ-loop
+generator-of-requires c κs = search needs
 
-add-generator-points-2 : tie.Need-add-generator-points-2 Inv-loop μ-loop
-add-generator-points-2 c = let R = room _ _ (c .before .before .before .before .pre .4) (c .before .before .before .before .pre .0) (c .before .before .before .before .pre .1) in omega arith
-
-mul-generator-points : tie.Need-mul-generator-points Inv-loop μ-loop
-mul-generator-points c = let R = room _ _ (c .before .before .before .before .pre .4) (c .before .before .before .before .pre .0) (c .before .before .before .before .pre .1) in omega arith
-
-shared-slice-read-generator-points : tie.Need-shared-slice-read-generator-points Inv-loop μ-loop
-shared-slice-read-generator-points c = let R = room _ _ (c .before .before .before .before .before .pre .4) (c .before .before .before .before .before .pre .0) (c .before .before .before .before .before .pre .1) in omega arith
-
-generator-points-requires : tie.Need-generator-points-requires Inv-loop μ-loop
-generator-points-requires c κs = search needs
-
+-- src/factor.rt:121:13
 row-segments-requires : tie.Need-row-segments-requires Inv-loop μ-loop
 row-segments-requires c κs = search needs
 
-add-curve-fault : tie.Need-add-curve-fault Inv-loop μ-loop
-add-curve-fault c = let R = room _ _ (c .before .before .before .before .before .before .before .pre .4) (c .before .before .before .before .before .before .before .pre .0) (c .before .before .before .before .before .before .before .pre .1) in omega (arith, R .fits _ _ _ (c .before .before .before .loop-test .taken) (c .before .before .before .before .loop .inv .1) (c .before .generator-points .ensures))
-
+-- src/factor.rt:122:13
 curve-fault-requires : tie.Need-curve-fault-requires Inv-loop μ-loop
-curve-fault-requires c κs = let R = room _ _ (c .before .before .before .before .before .before .before .pre .4) (c .before .before .before .before .before .before .before .pre .0) (c .before .before .before .before .before .before .before .pre .1) in (λ s l. omega (arith, c .row-segments .ensures .1, R .fits _ _ _ (c .before .before .before .loop-test .taken) (c .before .before .before .before .loop .inv .1) (c .before .generator-points .ensures)), omega (arith, c .row-segments .ensures .1, R .fits _ _ _ (c .before .before .before .loop-test .taken) (c .before .before .before .before .loop .inv .1) (c .before .generator-points .ensures)), omega (arith, c .before .before .before .before .before .before .before .pre .3, c .before .before .before .before .loop .inv .3))
+curve-fault-requires c κs =
+    let read = c .before .generator-of .ensures in
+    let few = c .row-segments .ensures .1 in
+    let inv = c .before .before .before .before .before .loop .inv in (
+      λ s l. omega (arith, c .row-segments .ensures .0, segment-fits (c .before .generator-of .result .curved) (c .row-segments .ensures .0) l, read .curve),
+      omega (arith, few, read .points),
+      omega (arith, c .before .before .before .before .before .before .before .before .before .pre .1, inv .2, inv .0 .within, c .before .before .before .before .before .before .before .before .before .pre .0 .words .few-generators),
+    )
 
+-- src/factor.rt:124:13
 returns : tie.Need-returns Inv-loop μ-loop
 unfolding curvesFactor
-returns c = first-here _ _ _ _ (rw (← c .before .before .before .before .before .before .before .before .before .before .pre .1) (c .before .before .before .before .before .before .loop-test .taken)) (c .before .before .before .before .before .before .before .loop .inv .4) (c .before .before .curve-fault .ensures ∙ curve-is (c .before .before .before .before .before .before .before .before .before .before .args .words .now) (c .before .before .before .before .before .before .before .before .before .before .args .numbers .now) _ _ (c .before .before .before .before .before .before .before .before .before .before .pre .0) (c .before .before .before .before .before .before .before .before .before .before .pre .2) (c .before .before .before .before .before .before .before .loop .inv .1) (c .before .before .before .before .generator-points .ensures) (c .before .before .before .row-segments .ensures .0) (c .before .before .before .before .before .before .before .loop .inv .2)) (c .if1 .taken)
+returns c =
+    let inv = c .before .before .before .before .before .before .before .before .loop .inv in
+    let g = ap (λ l. l .generators) (c .before .before .before .before .before .before .before .before .before .before .before .before .pre .0 .words .is) in
+    first-here _ _ _ _ (rw (← g) (c .before .before .before .before .before .if1 .taken)) (inv .3) (c .before .before .curve-fault .ensures ∙ curve-read (c .before .before .before .before .before .before .before .before .before .before .before .before .args .start) (c .before .before .before .before .generator-of .ensures) (c .before .before .before .row-segments .ensures .0) (inv .1)) (c .if2 .taken)
 
-mul-at-2 : tie.Need-mul-at-2 Inv-loop μ-loop
-mul-at-2 c = let R = room _ _ (c .before .before .before .before .before .before .before .before .before .before .pre .4) (c .before .before .before .before .before .before .before .before .before .before .pre .0) (c .before .before .before .before .before .before .before .before .before .before .pre .1) in omega (arith, R .fits _ _ _ (c .before .before .before .before .before .before .loop-test .taken) (c .before .before .before .before .before .before .before .loop .inv .1) (c .before .before .before .before .generator-points .ensures))
-
-add-at : tie.Need-add-at Inv-loop μ-loop
-add-at c = let R = room _ _ (c .before .before .before .before .before .before .before .before .before .before .pre .4) (c .before .before .before .before .before .before .before .before .before .before .pre .0) (c .before .before .before .before .before .before .before .before .before .before .pre .1) in omega (arith, R .fits _ _ _ (c .before .before .before .before .before .before .loop-test .taken) (c .before .before .before .before .before .before .before .loop .inv .1) (c .before .before .before .before .generator-points .ensures))
-
-add-at-2 : tie.Need-add-at-2 Inv-loop μ-loop
-add-at-2 c = let R = room _ _ (c .before .before .before .before .before .before .before .before .before .before .pre .4) (c .before .before .before .before .before .before .before .before .before .before .pre .0) (c .before .before .before .before .before .before .before .before .before .before .pre .1) in omega (arith, R .fits _ _ _ (c .before .before .before .before .before .before .loop-test .taken) (c .before .before .before .before .before .before .before .loop .inv .1) (c .before .before .before .before .generator-points .ensures))
-
+-- src/factor.rt:126:18
 mul-place : tie.Need-mul-place Inv-loop μ-loop
-mul-place c = let R = room _ _ (c .before .before .before .before .before .before .before .before .before .before .pre .4) (c .before .before .before .before .before .before .before .before .before .before .pre .0) (c .before .before .before .before .before .before .before .before .before .before .pre .1) in omega (arith, c .before .before .before .before .before .before .before .before .before .before .pre .3, c .before .before .before .before .before .before .before .loop .inv .3, c .before .before .before .row-segments .ensures .1, R .fits _ _ _ (c .before .before .before .before .before .before .loop-test .taken) (c .before .before .before .before .before .before .before .loop .inv .1) (c .before .before .before .before .generator-points .ensures))
+mul-place c = omega (arith, c .before .before .before .row-segments .ensures .1, c .before .before .before .before .generator-of .ensures .points)
 
+-- src/factor.rt:126:9
 add-place : tie.Need-add-place Inv-loop μ-loop
-add-place c = let R = room _ _ (c .before .before .before .before .before .before .before .before .before .before .pre .4) (c .before .before .before .before .before .before .before .before .before .before .pre .0) (c .before .before .before .before .before .before .before .before .before .before .pre .1) in omega (arith, c .before .before .before .before .before .before .before .before .before .before .pre .3, c .before .before .before .before .before .before .before .loop .inv .3, c .before .before .before .row-segments .ensures .1, R .fits _ _ _ (c .before .before .before .before .before .before .loop-test .taken) (c .before .before .before .before .before .before .before .loop .inv .1) (c .before .before .before .before .generator-points .ensures))
+add-place c =
+    let inv = c .before .before .before .before .before .before .before .before .loop .inv in
+    omega (arith, c .before .before .before .row-segments .ensures .1, c .before .before .before .before .generator-of .ensures .points, c .before .before .before .before .before .before .before .before .before .before .before .before .pre .1, inv .2, inv .0 .within, c .before .before .before .before .before .before .before .before .before .before .before .before .pre .0 .words .few-generators)
 
-add-g : tie.Need-add-g Inv-loop μ-loop
-add-g c = let R = room _ _ (c .before .before .before .before .before .before .before .before .before .before .pre .4) (c .before .before .before .before .before .before .before .before .before .before .pre .0) (c .before .before .before .before .before .before .before .before .before .before .pre .1) in omega arith
+-- src/factor.rt:127:9
+next-generator-requires : tie.Need-next-generator-requires Inv-loop μ-loop
+next-generator-requires c κs = search needs
 
+-- src/factor.rt:119:5
 loop-less : tie.Need-loop-less Inv-loop μ-loop
 loop-less c = search needs
 
+-- src/factor.rt:119:5
 loop-again : tie.Need-loop-again Inv-loop μ-loop
-loop-again c = let R = room _ _ (c .before .before .before .before .before .before .before .before .before .before .pre .4) (c .before .before .before .before .before .before .before .before .before .before .pre .0) (c .before .before .before .before .before .before .before .before .before .before .pre .1) in (omega arith, generators-turn _ _ (c .before .before .before .before .before .before .before .before .before .before .pre .0) (c .before .before .before .before .generator-points .ensures) (c .before .before .before .before .before .before .before .loop .inv .1), omega (arith, c .before .before .before .before .before .before .before .loop .inv .2, segments-turn (c .before .before .before .before .before .before .before .before .before .before .args .words .now) (c .before .before .before .before .before .before .before .loop .g) (c .before .before .before .before .before .before .before .before .before .before .pre .0) (c .before .before .before .before .before .before .before .before .before .before .pre .2) (c .before .before .before .before .generator-points .ensures) (c .before .before .before .row-segments .ensures .0) refl), omega (arith, c .before .before .before .before .before .before .before .loop .inv .3, c .before .before .before .row-segments .ensures .1, R .fits _ _ _ (c .before .before .before .before .before .before .loop-test .taken) (c .before .before .before .before .before .before .before .loop .inv .1) (c .before .before .before .before .generator-points .ensures)), first-step _ _ _ (c .before .before .before .before .before .before .before .loop .inv .4) (c .before .before .curve-fault .ensures ∙ curve-is (c .before .before .before .before .before .before .before .before .before .before .args .words .now) (c .before .before .before .before .before .before .before .before .before .before .args .numbers .now) _ _ (c .before .before .before .before .before .before .before .before .before .before .pre .0) (c .before .before .before .before .before .before .before .before .before .before .pre .2) (c .before .before .before .before .before .before .before .loop .inv .1) (c .before .before .before .before .generator-points .ensures) (c .before .before .before .row-segments .ensures .0) (c .before .before .before .before .before .before .before .loop .inv .2)) (c .if1 .left))
+loop-again c =
+    let inv = c .before .before .before .before .before .before .before .before .before .loop .inv in
+    let read = c .before .before .before .before .before .generator-of .ensures in
+    let next = c .next-generator .ensures in
+    let count = c .before .before .before .before .row-segments .ensures in (
+      next .0,
+      rw (next .1) (place-read (c .before .before .before .before .before .before .before .before .before .before .before .before .before .args .start) read (count .0) (inv .1)),
+      rw (next .1) (omega (arith, count .1, read .points, inv .2)),
+      rw (next .1) (first-step _ _ _ (inv .3) (c .before .before .before .curve-fault .ensures ∙ curve-read (c .before .before .before .before .before .before .before .before .before .before .before .before .before .args .start) read (count .0) (inv .1)) (c .before .if2 .left)),
+    )
 
+-- src/factor.rt:113:1
 returns-2 : tie.Need-returns-2 Inv-loop μ-loop
 unfolding curvesFactor
-returns-2 c = first-done _ _ _ (rw (← c .before .before .before .before .pre .1) (omega arith)) (curve-proper _ _ _) (c .before .loop .inv .4)
+returns-2 c =
+    let inv = c .before .before .before .loop .inv in
+    let g = ap (λ l. l .generators) (c .before .before .before .before .before .before .before .pre .0 .words .is) in
+    first-done _ _ _ (rw (← g) (omega (arith, c .if1 .left))) (curve-proper _ _ _) (inv .3)
 
 pub curves-factor-spec : {M : Type 1} → statement M
 curves-factor-spec =
@@ -86,23 +112,15 @@ curves-factor-spec =
     (tie.spec
     Inv-loop
     μ-loop
-    mul-at
+    first-generator-requires
     loop-holds
-    add-generator-points
-    add-generator-points-2
-    mul-generator-points
-    shared-slice-read-generator-points
-    generator-points-requires
+    generator-of-requires
     row-segments-requires
-    add-curve-fault
     curve-fault-requires
     returns
-    mul-at-2
-    add-at
-    add-at-2
     mul-place
     add-place
-    add-g
+    next-generator-requires
     loop-less
     loop-again
     returns-2)

@@ -1,5 +1,5 @@
-use Rattle.factor.proofs.factor.with_cost.Statement.{statement}
-use Rattle.factor.proofs.factor.with_cost.Tie as tie
+use Rattle.acopf.proofs.objective.with_cost.Statement.{statement}
+use Rattle.acopf.proofs.objective.with_cost.Tie as tie
 
 returns : tie.Need-returns
 returns c = rw (c .if1 .taken)

@@ -1,6 +1,6 @@
 use borrow.Author.Needs.{needs}
-use Rattle.factor.proofs.factor.epigraph_start.Statement.{statement}
-use Rattle.factor.proofs.factor.epigraph_start.Tie as tie
+use Rattle.factor.proofs.by_place.epigraph_start.Statement.{statement}
+use Rattle.factor.proofs.by_place.epigraph_start.Tie as tie
 
 add-generator-start : tie.Need-add-generator-start
 add-generator-start c = search needs

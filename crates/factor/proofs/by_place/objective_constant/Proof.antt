@@ -6,8 +6,8 @@ use Rattle.network.proofs.Good.{generator-zero}
 use Rattle.acopf.specs.Model.{objectiveConstant}
 use Rattle.factor.proofs.Steps.{room, generators-turn, curved-is, costsBefore, costs-none, costs-turn}
 use borrow.Author.Needs.{needs}
-use Rattle.factor.proofs.factor.objective_constant.Statement.{statement}
-use Rattle.factor.proofs.factor.objective_constant.Tie as tie
+use Rattle.factor.proofs.by_place.objective_constant.Statement.{statement}
+use Rattle.factor.proofs.by_place.objective_constant.Tie as tie
 
 abbrev Inv-loop : tie.InvT-loop
 Inv-loop words numbers n k priced sum₀ at₀ g₀ sum at g = (g ≤ k) × (at ≡ generatorAt words g) × (sum ≡ costsBefore words numbers g)
