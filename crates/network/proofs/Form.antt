@@ -10,7 +10,7 @@ use lib.Ieee.{Float}
 use Rattle.base.proofs.Firsts.{Clear, or-left, or-right}
 use Rattle.base.specs.Fault.{orElse}
 use Rattle.base.specs.declared.Fault.{Fault}
-use Rattle.float.specs.Number.{Doubles}
+use Rattle.float.specs.Doubles.{Doubles}
 use Rattle.network.specs.Fault.{faultWords, faultSize, faultCount, faultBlank, faultCurve, faultShift, faultBounds, faultBranches, faultTables, wordsFault, formFault}
 use Rattle.network.specs.Limits.{generatorNumbers, pointNumbers, branchNumbers, mostPoints}
 use Rattle.network.specs.Network.{generators, generatorPlace, branchPlace, points, branchAt, needed}

@@ -6,7 +6,8 @@ use mathlib.Core.Bool.{Bool, _&&_}
 use mathlib.Core.List.{List}
 use lib.ListN.{length}
 use lib.Ieee.{Float, lt}
-use Rattle.float.specs.Number.{zero64, Doubles}
+use Rattle.float.specs.Doubles.{Doubles}
+use Rattle.float.specs.Number.{zero64}
 use Rattle.base.specs.declared.Fault.{Fault}
 use Rattle.network.specs.declared.layout.Layout.{Layout}
 use Rattle.network.specs.declared.formed.Form.{Form}
