@@ -13,7 +13,9 @@ SEED = 1998
 TESTS = tests/gate-paths tests/boundary/run tests/depot/run
 
 CASE ?= depot_m
-LIBRARIES = target/staticlib/libnl.a target/staticlib/libvalidate.a target/staticlib/libcompile.a
+# the archives for C
+ARCHIVES := $(shell grep -v '^\#' include/archives.txt)
+LIBRARIES = $(ARCHIVES:%=target/staticlib/lib%.a)
 
 run:
 	@rt check depot >&2
@@ -34,7 +36,7 @@ case:
 	@examples/pack examples/$(CASE).txt > target/$(CASE).bin
 
 archives:
-	@tests/boundary/archives nl validate compile
+	@tests/boundary/archives
 
 test:
 	@tests/gate $(TESTS)

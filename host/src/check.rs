@@ -43,25 +43,14 @@ pub enum Check {
     },
 }
 
-// Document 01's limits. A network with more is refused before the output list is looked at.
-const BUSES: usize = 256;
-const BRANCHES: usize = 512;
-
-// how many words have that kind, counted up to a limit
-fn kinds(words: &[u32], kind: u32, limit: usize) -> usize {
-    words.iter().filter(|&&word| word >> 28 == kind).take(limit).count()
-}
-
 /// Checks a point, a value for each column, and the solver's own objective for it.
 pub fn check(words: &[u32], numbers: &[f64], point: &[f64], solver_objective: f64) -> Check {
-    let n = kinds(words, 2, BUSES);
-    let m = kinds(words, 4, BRANCHES);
-    let mut outputs = vec![0.0; 2 * n + 4 * m];
-    let answer = boundary::validate_check(words, numbers, point, solver_objective, &mut outputs);
+    let mut outputs = vec![0.0; boundary::fervoulk_outputs(words, numbers)];
+    let answer = boundary::fervoulk_check(words, numbers, point, solver_objective, &mut outputs);
     let Some(refusal) = Refusal::of(answer) else {
-        let objective = boundary::validate_objective(words, numbers, point, solver_objective, &mut outputs);
+        let objective = boundary::fervoulk_objective(words, numbers, point, solver_objective, &mut outputs);
         let residuals = residuals(words, numbers, point, solver_objective, &mut outputs);
-        return Check::Accepted { outputs: taken_apart(&outputs, n, m), objective, residuals };
+        return Check::Accepted { outputs: taken_apart(&outputs, buses(words)), objective, residuals };
     };
     let residuals = match refusal.kind {
         Kind::Residual => Some(residuals(words, numbers, point, solver_objective, &mut outputs)),
@@ -72,7 +61,7 @@ pub fn check(words: &[u32], numbers: &[f64], point: &[f64], solver_objective: f6
 
 // Each number of the answer is a call of its own.
 fn residuals(words: &[u32], numbers: &[f64], point: &[f64], solver_objective: f64, outputs: &mut [f64]) -> Residuals {
-    let mut residual = |i| boundary::validate_residual(words, numbers, point, solver_objective, outputs, i);
+    let mut residual = |i| boundary::fervoulk_residual(words, numbers, point, solver_objective, outputs, i);
     Residuals {
         active_balance: residual(0),
         reactive_balance: residual(1),
@@ -85,8 +74,14 @@ fn residuals(words: &[u32], numbers: &[f64], point: &[f64], solver_objective: f6
     }
 }
 
-// the six lists that stand one after the other for n buses and m branches
-fn taken_apart(outputs: &[f64], n: usize, m: usize) -> Outputs {
+// how many bus words there are
+fn buses(words: &[u32]) -> usize {
+    words.iter().filter(|&&word| word >> 28 == 2).count()
+}
+
+// the six lists that stand one after the other: two for n buses, four for the branches
+fn taken_apart(outputs: &[f64], n: usize) -> Outputs {
+    let m = (outputs.len() - 2 * n) / 4;
     let part = |start: usize, length: usize| outputs[start..start + length].to_vec();
     Outputs {
         p_injection: part(0, n),
@@ -105,7 +100,7 @@ mod tests {
     #[test]
     fn six_lists_one_after_the_other() {
         let numbers: Vec<f64> = (0..10).map(f64::from).collect();
-        let outputs = taken_apart(&numbers, 1, 2);
+        let outputs = taken_apart(&numbers, 1);
         assert_eq!(outputs.p_injection, [0.0]);
         assert_eq!(outputs.q_injection, [1.0]);
         assert_eq!(outputs.p_from, [2.0, 3.0]);

@@ -29,11 +29,11 @@ pub struct Model {
 /// Compiles a network file, refused with 1 to 11.
 pub fn compile(words: &[u32], numbers: &[f64]) -> Result<Model, Refusal> {
     // The counts are 0 for a refused network, and its refusal comes before that of short lists.
-    let columns = boundary::compile_columns(words, numbers);
-    let rows = boundary::compile_rows(words, numbers);
+    let columns = boundary::fervoulk_columns(words, numbers);
+    let rows = boundary::fervoulk_rows(words, numbers);
     let mut model = Model {
-        words: vec![0; boundary::compile_words(words, numbers)],
-        constants: vec![0.0; boundary::compile_constants(words, numbers)],
+        words: vec![0; boundary::fervoulk_words(words, numbers)],
+        constants: vec![0.0; boundary::fervoulk_constants(words, numbers)],
         column_lower: vec![0.0; columns],
         column_upper: vec![0.0; columns],
         start: vec![0.0; columns],
@@ -41,8 +41,8 @@ pub fn compile(words: &[u32], numbers: &[f64]) -> Result<Model, Refusal> {
         row_upper: vec![0.0; rows],
         columns,
         rows,
-        shared: boundary::compile_shared(words, numbers),
-        objective: boundary::compile_objective(words, numbers),
+        shared: boundary::fervoulk_shared(words, numbers),
+        objective: boundary::fervoulk_objective_constant(words, numbers),
     };
     let lists = boundary::Lists {
         words: &mut model.words,
@@ -53,7 +53,7 @@ pub fn compile(words: &[u32], numbers: &[f64]) -> Result<Model, Refusal> {
         row_lower: &mut model.row_lower,
         row_upper: &mut model.row_upper,
     };
-    match Refusal::of(boundary::compile_model(words, numbers, lists)) {
+    match Refusal::of(boundary::fervoulk_compile(words, numbers, lists)) {
         None => Ok(model),
         Some(refusal) => Err(refusal),
     }

@@ -250,9 +250,9 @@ fn expected(file: &File, constants: usize, r: usize) -> (u64, usize, usize, usiz
 }
 
 fn found(file: &File, constants: usize, r: usize) -> (u64, usize, usize, usize) {
-    let fault = nl::nl_find_row(&file.words, constants, file.columns, r);
-    let start = nl::nl_row_start(&file.words, constants, file.columns, r);
-    let part = nl::nl_row_length(&file.words, constants, file.columns, r);
+    let fault = nl::fervoulk_find_row(&file.words, constants, file.columns, r);
+    let start = nl::fervoulk_row_start(&file.words, constants, file.columns, r);
+    let part = nl::fervoulk_row_length(&file.words, constants, file.columns, r);
     (fault >> 32, (fault & 0xffff_ffff) as usize, start, part)
 }
 
@@ -263,7 +263,7 @@ fn same_as_read(a: &File, b: &File) -> u32 {
 }
 
 fn same(a: &File, b: &File) -> u32 {
-    nl::nl_same(&a.words, &a.constants, &b.words, &b.constants)
+    nl::fervoulk_same(&a.words, &a.constants, &b.words, &b.constants)
 }
 
 fn twin(random: &mut Random, a: &File) -> File {

@@ -23,6 +23,10 @@ tiny64 = ofBits binary64 0x3EB0_C6F7_A0B5_ED8D
 unfoldable pub tolerances : List Float
 tolerances = replicate 8 tiny64
 
+-- the length of the outputs, from the network alone: 2n + 4m, and 0 for a refused network
+unfoldable pub outputsNeeded : List ℕ → List Float → ℕ
+outputsNeeded ws xs = cond (eqb (networkFault ws xs .number) 0) (2 * buses ws + 4 * branches ws) 0
+
 -- what is calculated from a point
 pub record Solved : Type 0 where
   pub outputs : List Float

@@ -4,9 +4,10 @@ mod point;
 mod primal;
 mod tolerance;
 
-pub use boundary::validate_check;
-pub use boundary::validate_objective;
-pub use boundary::validate_residual;
+pub use boundary::fervoulk_check;
+pub use boundary::fervoulk_objective;
+pub use boundary::fervoulk_outputs;
+pub use boundary::fervoulk_residual;
 pub use primal::check;
 
 pub struct Checked {

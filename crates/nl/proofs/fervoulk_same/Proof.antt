@@ -1,8 +1,8 @@
--- `nl::nl_same` meets its contract.
+-- `nl::fervoulk_same` meets its contract.
 use mathlib.Core.Path.{sym, _∙_}
 use borrow.Author.Needs.{needs}
-use Rattle.nl.proofs.nl_same.Statement.{statement}
-use Rattle.nl.proofs.nl_same.Tie as tie
+use Rattle.nl.proofs.fervoulk_same.Statement.{statement}
+use Rattle.nl.proofs.fervoulk_same.Tie as tie
 
 same-requires : tie.Need-same-requires
 same-requires c κs = search needs
@@ -13,5 +13,5 @@ returns c = simp (sym (c .before .same .ensures) ∙ c .if1 .taken)
 returns-2 : tie.Need-returns-2
 returns-2 c = simp (sym (c .before .same .ensures) ∙ c .if1 .left)
 
-pub nl-same-spec : {M : Type 1} → statement M
-nl-same-spec = tie.close (tie.spec same-requires returns returns-2)
+pub fervoulk-same-spec : {M : Type 1} → statement M
+fervoulk-same-spec = tie.close (tie.spec same-requires returns returns-2)

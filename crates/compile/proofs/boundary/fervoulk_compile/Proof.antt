@@ -1,8 +1,8 @@
 use mathlib.Core.Path.{ap, _∙_}
 use Rattle.base.specs.Fault.{fault, packed}
 use borrow.Author.Needs.{needs}
-use Rattle.compile.proofs.boundary.compile_model.Statement.{statement}
-use Rattle.compile.proofs.boundary.compile_model.Tie as tie
+use Rattle.compile.proofs.boundary.fervoulk_compile.Statement.{statement}
+use Rattle.compile.proofs.boundary.fervoulk_compile.Tie as tie
 
 compile-requires : tie.Need-compile-requires
 compile-requires c κs = search needs
@@ -34,8 +34,8 @@ same-length-7 c = search needs
 returns : tie.Need-returns
 returns c = (c .packed .ensures ∙ ap (λ a. packed (fault (a .number) (a .place))) (c .before .before .before .before .before .before .before .before .before .before .before .before .before .before .before .compile .ensures .0), c .before .before .before .before .before .before .before .before .before .before .before .before .before .before .before .compile .ensures .1)
 
-pub compile-model-spec : {M : Type 1} → statement M
-compile-model-spec =
+pub fervoulk-compile-spec : {M : Type 1} → statement M
+fervoulk-compile-spec =
     tie.close
     (tie.spec
     compile-requires

@@ -1,12 +1,12 @@
--- `nl::nl_row_length` meets its contract.
+-- `nl::fervoulk_row_length` meets its contract.
 use mathlib.Core.Path.{ap}
 use Prim.Native.Nat.{_-_}
 use native.Mathlib.Omega.{arith}
 use Rattle.nl.specs.Finder.{rowLength}
 use Rattle.nl.proofs.Finds.{inside-words}
 use borrow.Author.Needs.{needs}
-use Rattle.nl.proofs.nl_row_length.Statement.{statement}
-use Rattle.nl.proofs.nl_row_length.Tie as tie
+use Rattle.nl.proofs.fervoulk_row_length.Statement.{statement}
+use Rattle.nl.proofs.fervoulk_row_length.Tie as tie
 
 find-requires : tie.Need-find-requires
 find-requires c κs = search needs
@@ -18,5 +18,5 @@ returns : tie.Need-returns
 unfolding rowLength
 returns c = ap (λ f. f .end - f .start) (c .before .find .ensures)
 
-pub nl-row-length-spec : {M : Type 1} → statement M
-nl-row-length-spec = tie.close (tie.spec find-requires sub-result returns)
+pub fervoulk-row-length-spec : {M : Type 1} → statement M
+fervoulk-row-length-spec = tie.close (tie.spec find-requires sub-result returns)

@@ -1,6 +1,6 @@
 use borrow.Author.Needs.{needs}
-use Rattle.validate.proofs.boundary.validate_residual.Statement.{statement}
-use Rattle.validate.proofs.boundary.validate_residual.Tie as tie
+use Rattle.validate.proofs.boundary.fervoulk_residual.Statement.{statement}
+use Rattle.validate.proofs.boundary.fervoulk_residual.Tie as tie
 
 check-requires : tie.Need-check-requires
 check-requires c κs = search needs
@@ -14,5 +14,5 @@ same-length c = search needs
 returns : tie.Need-returns
 returns c = (rw (c .residual .ensures, c .before .before .before .before .check .ensures .0), c .before .before .before .before .check .ensures .1)
 
-pub validate-residual-spec : {M : Type 1} → statement M
-validate-residual-spec = tie.close (tie.spec check-requires residual-requires same-length returns)
+pub fervoulk-residual-spec : {M : Type 1} → statement M
+fervoulk-residual-spec = tie.close (tie.spec check-requires residual-requires same-length returns)
