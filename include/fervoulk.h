@@ -3,8 +3,8 @@
  *
  * The functions stand in the archives that include/archives.txt lists, target/staticlib/libNAME.a for a NAME of the list (`rt staticlib
  * NAME`), for x86-64 Linux; each section below names its own. Link any of them, in any order; they need memcpy and memset of the C library
- * and nothing else. "Document 01" below is the paper that defines the files, the refusals and the check; the contracts are proved for the
- * functions named here, as they stand in crates/NAME/src.
+ * and nothing else. docs/FORMAT.md says what the files, the refusals and the check are, and works an example; "document 01" is the paper
+ * behind it. The contracts are proved for the functions named here, as they stand in crates/NAME/src.
  *
  * What the caller owes. Nothing proves a caller in C:
  *  - A list is a pointer and the number of its elements. The pointer is aligned for its type (4 bytes for words, 8 for doubles) and
@@ -35,7 +35,7 @@ typedef char fervoulk_size_t_has_64_bits[sizeof(size_t) == 8 ? 1 : -1];
 /* ---- Refusals: a number and a place in one answer */
 
 /*
- * The numbers of document 01's table, each named by its word. What the place is stands beside it. Compile uses 1 to 12, the check 1 to
+ * The refusals' numbers, each named by its word. What the place is stands beside it. Compile uses 1 to 12, the check 1 to
  * 16, the finder 17 and 18; the first fault decides, by number, but 8, 9 and 10 branch by branch.
  */
 enum fervoulk_refusal {
@@ -47,20 +47,20 @@ enum fervoulk_refusal {
     FERVOULK_CURVE = 5,     /* curve's power not above the one before: its index */
     FERVOULK_SHIFT = 6,     /* shift outside -1,024 to 1,024: its index */
     FERVOULK_BOUNDS = 7,    /* active bound not finite, or lower above upper: the column */
-    FERVOULK_SPREAD = 8,    /* the same for active angle bounds: the branch */
+    FERVOULK_SPREAD = 8,    /* active angle bound not finite, or lower above upper: the branch */
     FERVOULK_RATING = 9,    /* active s_max not finite or below 0: the branch */
     FERVOULK_SQUARE = 10,   /* active s_max squared not finite: the branch */
     FERVOULK_FACTOR = 11,   /* constant, objective constant or start not finite: its index in these, one after the other */
     FERVOULK_SHORT = 12,    /* a written list too short: its number, from 1 */
     FERVOULK_POINT = 13,    /* point of a wrong length: the number of columns; else its first column that is not finite */
     FERVOULK_SWING = 14,    /* voltage angle outside -1,024 to 1,024: the column */
-    FERVOULK_DERIVED = 15,  /* output not finite: its index; 2n + 4m for the solver's objective, 2n + 4m + 1 for the own */
+    FERVOULK_DERIVED = 15,  /* output not finite: its index; 2n + 4m for the solver's objective, 2n + 4m + 1 for the check's own */
     FERVOULK_RESIDUAL = 16, /* a residual above its tolerance: the first, from 1 */
     FERVOULK_MODEL = 17,    /* model words wrong: the first wrong word, the length where they run out, the end word with constants left */
     FERVOULK_ROW = 18       /* no such row: the number of rows */
 };
 
-/* From an answer of fervoulk_compile, fervoulk_check or fervoulk_find_row: the number, 0 where nothing is refused. */
+/* From an answer of fervoulk_compile, fervoulk_check, fervoulk_residuals or fervoulk_find_row: the number, 0 where nothing is refused. */
 static inline uint32_t fervoulk_number(uint64_t answer) {
     return (uint32_t)(answer >> 32);
 }
@@ -72,7 +72,7 @@ static inline uint32_t fervoulk_place(uint64_t answer) {
 
 #define FERVOULK_PLACE_MAX UINT32_MAX
 
-/* Document 01's word for a refusal's number; an empty string for any number that it does not have, 0 among them. */
+/* The word for a refusal's number; an empty string for a number that is no refusal's, 0 among them. */
 static inline const char *fervoulk_word(uint32_t number) {
     static const char *const words[] = {
         "", "words", "size", "count", "blank", "curve", "shift", "bounds", "spread", "rating",
@@ -83,7 +83,7 @@ static inline const char *fervoulk_word(uint32_t number) {
 /* ---- Compile: from the network file to the model file (libcompile.a) */
 
 /*
- * Compiles the network of `words` and `numbers` (document 01, "The network file"). Answers number and place, number 1 to 12 or 0.
+ * Compiles the network of `words` and `numbers` (docs/FORMAT.md, "The network file"). Answers number and place, number 1 to 12 or 0.
  *
  * Where the number is 0, the front parts of the seven written lists hold:
  *   model_words     fervoulk_words      the model file's words
@@ -176,6 +176,19 @@ double fervoulk_residual(
     double solver,
     double *outputs, size_t outputs_length,
     size_t i);
+
+/*
+ * All eight residuals, in that order, and then the objective, by one run: in front of `report`, a list of nine or more, whether a residual
+ * is above its tolerance or not. Answers number and place as fervoulk_check does for 1 to 15, but 12, place 1, is for `report`; never 16.
+ * Where the number is 0, the list holds the nine numbers in front and the rest is as it was; where it is not 0, all of it is as it was.
+ * The point is accepted only where fervoulk_check answers 0.
+ */
+uint64_t fervoulk_residuals(
+    const uint32_t *words, size_t words_length,
+    const double *numbers, size_t numbers_length,
+    const double *point, size_t point_length,
+    double solver,
+    double *report, size_t report_length);
 
 /* ---- Finder: one row of a model file (libnl.a). Nothing is written */
 

@@ -276,10 +276,10 @@ int main(int count, char **arguments) {
     size_t outputs_length = fervoulk_outputs(words, nw, numbers, nx);
     double *outputs = list(outputs_length, sizeof *outputs);
     answer = fervoulk_check(words, nw, numbers, nx, x, m.columns, solver, outputs, outputs_length);
-    if (answer == 0 || fervoulk_number(answer) == FERVOULK_RESIDUAL) {
+    double report[9];
+    if (fervoulk_residuals(words, nw, numbers, nx, x, m.columns, solver, report, 9) == 0) {
         printf("residuals:");
-        for (size_t i = 0; i < 8; i++)
-            printf(" %.2g", fervoulk_residual(words, nw, numbers, nx, x, m.columns, solver, outputs, outputs_length, i));
+        for (size_t i = 0; i < 8; i++) printf(" %.2g", report[i]);
         printf("\n");
     }
     if (answer != 0) return refused("the check", answer);

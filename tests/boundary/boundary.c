@@ -147,6 +147,43 @@ static void test_check(void) {
     expect_check(inactive, crossed, point, 4, 8, 0, 0, 8, 0, 0, __LINE__);
 }
 
+/* the residuals and the objective by one run, with 10 numbers lent of which 9 are written */
+static void expect_report(const double *x, const double *p, size_t columns, double solver, uint32_t number, uint32_t place,
+                          double objective, size_t residual, double violation, int line) {
+    double report[10];
+    for (size_t i = 0; i < LENGTH(report); i++) {
+        report[i] = 7;
+    }
+    const uint64_t answer = fervoulk_residuals(words, 4, x, 17, p, columns, solver, LIST(report));
+    expect(refused(answer, number, place), "fervoulk_residuals", line);
+    for (size_t i = 0; i < 8; i++) {
+        expect(same_bits(report[i], number != 0 ? 7 : i == residual ? violation : 0), "residual", line);
+    }
+    expect(same_bits(report[8], number != 0 ? 7 : objective), "objective", line);
+    expect(same_bits(report[9], 7), "behind the nine", line);
+}
+
+static void test_residuals(void) {
+    const double above[] = {nextafter(1e-6, 1), 1, 1, 0.25};
+    const double strong[] = {0, 1, 1.5, 0.25};
+    const double swung[] = {1025, 1, 1, 0.25};
+    double report[9];
+    expect_report(numbers, point, 4, 8, 0, 0, 8, 0, 0, __LINE__);
+    expect_report(numbers, above, 4, 8, 0, 0, 8, 3, above[0], __LINE__);
+    expect_report(numbers, strong, 4, 10.75, 0, 0, 10.75, 0, 0.5, __LINE__);
+    expect_report(numbers, point, 3, 8, FERVOULK_POINT, 4, 0, 0, 0, __LINE__);
+    expect_report(numbers, swung, 4, 8, FERVOULK_SWING, 0, 0, 0, 0, __LINE__);
+    expect_report(numbers, point, 4, INFINITY, FERVOULK_DERIVED, 2, 0, 0, 0, __LINE__);
+    expect_report(crossed, point, 4, 8, FERVOULK_BOUNDS, 2, 0, 0, 0, __LINE__);
+    EXPECT(fervoulk_residuals(NETWORK, LIST(point), 8, LIST(report)) == 0);
+    EXPECT(same_bits(report[8], 8));
+    report[0] = 7;
+    EXPECT(refused(fervoulk_residuals(NETWORK, LIST(point), 8, report, 8), FERVOULK_SHORT, 1));
+    EXPECT(same_bits(report[0], 7));
+    EXPECT(refused(fervoulk_residuals(NETWORK, NULL, 0, 8, NULL, 0), FERVOULK_SHORT, 1));
+    EXPECT(refused(fervoulk_residuals(NULL, 0, NULL, 0, NULL, 0, 8, NULL, 0), FERVOULK_WORDS, 0));
+}
+
 static void test_outputs(void) {
     /* two buses and a branch between them */
     static const uint32_t line[] = {0x10000000, 0x20000000, 0x20000000, 0x40001000, 0x50000000};
@@ -297,6 +334,7 @@ int main(void) {
     test_same();
     test_check();
     test_outputs();
+    test_residuals();
     test_check_lists();
     test_compile();
     test_compile_refused();

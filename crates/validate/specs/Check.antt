@@ -79,3 +79,22 @@ module _ (ws : List ℕ) (xs x : List Float) (solver : Float) where
   -- the output list after the call, from what it held before: the outputs in front and the rest as it was, or all as it was
   abbrev pub outputsAfter : List Float → List Float
   outputsAfter before = left (checkFault (length before)) (solved .outputs) before
+
+  -- ---- the residuals and the objective of a point that the check may refuse with 16
+
+  -- "Eight residuals", then the objective
+  unfoldable pub reported : Solved → List Float
+  reported s = s .residuals ++ (s .objective ∷ [])
+
+  -- 12 short, for the one list that is written here, of length `lent`
+  unfoldable pub faultReport : ℕ → Fault
+  faultReport lent = unless (leb 9 lent) (fault 12 1)
+
+  -- 1 to 15 as the check's; a residual above its tolerance is no refusal
+  unfoldable pub residualsFault : ℕ → Fault
+  residualsFault lent =
+      orElse (networkFault ws xs) (orElse (faultReport lent) (orElse faultPoint (orElse faultSwing (faultDerived solved))))
+
+  -- that list after the call
+  abbrev pub reportAfter : List Float → List Float
+  reportAfter before = left (residualsFault (length before)) (reported solved) before

@@ -37,6 +37,17 @@ mod c {
             outputs_length: usize,
             i: usize,
         ) -> f64;
+        pub fn fervoulk_residuals(
+            words: *const u32,
+            words_length: usize,
+            numbers: *const f64,
+            numbers_length: usize,
+            point: *const f64,
+            point_length: usize,
+            solver: f64,
+            report: *mut f64,
+            report_length: usize,
+        ) -> u64;
     }
 }
 
@@ -93,6 +104,23 @@ pub fn fervoulk_residual(words: &[u32], numbers: &[f64], point: &[f64], solver: 
             outputs.as_mut_ptr(),
             outputs.len(),
             i,
+        )
+    }
+}
+
+pub fn fervoulk_residuals(words: &[u32], numbers: &[f64], point: &[f64], solver: f64, report: &mut [f64]) -> u64 {
+    // SAFETY: each pair is a slice; the written one is a `&mut` slice.
+    unsafe {
+        c::fervoulk_residuals(
+            words.as_ptr(),
+            words.len(),
+            numbers.as_ptr(),
+            numbers.len(),
+            point.as_ptr(),
+            point.len(),
+            solver,
+            report.as_mut_ptr(),
+            report.len(),
         )
     }
 }
