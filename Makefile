@@ -1,11 +1,16 @@
-# make run: proves, builds and runs the main program, depot, on examples/depot_m.txt (CASE=case9: on examples/case9.txt).
+# make run: proves the program depot and the crates below it (a line for each; the prover's notes go to target/log/prove), builds it and
+#   runs it on examples/depot_m.txt. CASE=curve takes examples/curve.txt. The program lends lists of 512, so that a larger model, as
+#   CASE=case9 with its 980 words, is answered with "refused 12 1": make model shows those too.
 # make model: shows the model file of the same CASE as text (host/examples/model.rs), of any size; needs cargo.
 # make solve: solves the CASE with Ipopt and checks the point (examples/ipopt, docs/SOLVER.md); OPTIONS are Ipopt's, NAME=VALUE.
-# make test: the gate. make fmt: lays out every Rattle file.
+# make test: the gate.
+# make fmt: lays out every Rattle file.
 # make replay: the stored answers of the original Rust, held to the definitions (some minutes; not in the gate).
 # make differential, files, platform, bench: the original Rust beside the port; they need what tests/oracle/README.md names. N: how many
-# cases; SEED. make answers: writes the answers of crates/oracle_answers anew.
+#   cases; SEED. make answers: writes the answers of crates/oracle_answers anew.
 .PHONY: run model solve case archives test fmt replay differential files platform answers bench
+# A case that is not there is said before anything is proved.
+.NOTPARALLEL:
 N = 10000
 SEED = 1998
 
@@ -17,9 +22,8 @@ CASE ?= depot_m
 ARCHIVES := $(shell grep -v '^\#' include/archives.txt)
 LIBRARIES = $(ARCHIVES:%=target/staticlib/lib%.a)
 
-run:
-	@rt check depot >&2
-	@examples/pack examples/$(CASE).txt > target/$(CASE).bin
+run: case
+	@tests/prove depot
 	@target/bin/depot < target/$(CASE).bin
 
 model: case archives
@@ -32,6 +36,7 @@ solve: case archives
 	@target/solve $(OPTIONS) < target/$(CASE).bin
 
 case:
+	@[ -f examples/$(CASE).txt ] || { echo "no examples/$(CASE).txt; CASE is one of:" $(basename $(notdir $(wildcard examples/*.txt))) >&2; exit 2; }
 	@mkdir -p target
 	@examples/pack examples/$(CASE).txt > target/$(CASE).bin
 
