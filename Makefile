@@ -4,13 +4,15 @@
 # make model: shows the model file of the same CASE as text (host/examples/model.rs), of any size; needs cargo.
 # make solve: solves the CASE with Ipopt and checks the point (examples/ipopt, docs/SOLVER.md); OPTIONS are Ipopt's, NAME=VALUE.
 # make test: the gate.
-# make fmt: lays out every Rattle file.
+# make fmt: lays out every Rattle and Rust file. make lint: says which are not laid out, and what shellcheck finds where it is there.
 # make replay: the stored answers of the original Rust, held to the definitions (some minutes; not in the gate).
-# make differential, files, platform, bench: the original Rust beside the port; they need what tests/oracle/README.md names. N: how many
-#   cases; SEED. make answers: writes the answers of crates/oracle_answers anew.
-.PHONY: run model solve case archives test fmt replay differential files platform answers bench
+# make differential, files, platform, bench: the original Rust beside the port; SOURCE=FOLDER is the folder that holds its
+#   crates/tellegen/src, and tests/oracle/README.md names what else they need. N: how many cases; SEED. make answers: writes the answers of
+#   crates/oracle_answers anew.
+.PHONY: run model solve case archives test fmt lint replay differential files platform answers bench
 # A case that is not there is said before anything is proved.
 .NOTPARALLEL:
+SOURCE =
 N = 10000
 SEED = 1998
 
@@ -48,21 +50,26 @@ test:
 
 fmt:
 	@rt fmt
+	@cargo fmt --manifest-path host/Cargo.toml
+	@cargo fmt --all --manifest-path tests/Cargo.toml
+
+lint:
+	@tests/lint
 
 replay:
 	@tests/oracle/replay
 
 differential:
-	@tests/differential/run $(N) $(SEED)
+	@tests/differential/run "$(SOURCE)" $(N) $(SEED)
 
 files:
-	@tests/differential/run files $(N) $(SEED)
+	@tests/differential/run "$(SOURCE)" files $(N) $(SEED)
 
 platform:
-	@tests/differential/run platform $(N) $(SEED)
+	@tests/differential/run "$(SOURCE)" platform $(N) $(SEED)
 
 answers:
-	@tests/differential/run store $(SEED)
+	@tests/differential/run "$(SOURCE)" store $(SEED)
 
 bench:
-	@tests/bench/run
+	@tests/bench/run "$(SOURCE)"

@@ -1,9 +1,9 @@
 //! compile on both sides: number and place, seven lists by bits, counts, objective constant.
 
-use crate::answers::Refusal;
 use crate::cases::Case;
 use crate::compare::{packed, Lent, Tally};
 use crate::ours;
+use oracle::Refusal;
 use oracle_text::File;
 
 /// The seven lists of an accepted network, as cells: words are lent as 32-bit cells, the rest as numbers.
@@ -33,27 +33,16 @@ impl LentWords {
     fn holds(&self, front: &[u32]) -> bool {
         let end = GUARDS + front.len();
         let kept = |i: usize| self.cells[i] == GUARD ^ i as u32;
-        end <= GUARDS + self.length
-            && self.cells[GUARDS..end] == *front
-            && (0..GUARDS).all(kept)
-            && (end..self.cells.len()).all(kept)
+        end <= GUARDS + self.length && self.cells[GUARDS..end] == *front && (0..GUARDS).all(kept) && (end..self.cells.len()).all(kept)
     }
 }
 
 fn lend(lengths: [usize; 7]) -> Lists {
-    Lists {
-        words: LentWords::new(lengths[0]),
-        numbers: lengths[1..]
-            .iter()
-            .map(|&length| Lent::new(length))
-            .collect(),
-    }
+    Lists { words: LentWords::new(lengths[0]), numbers: lengths[1..].iter().map(|&length| Lent::new(length)).collect() }
 }
 
 fn run(case: &Case, lists: &mut Lists) -> u64 {
-    let [a, b, c, d, e, f] = &mut lists.numbers[..] else {
-        unreachable!()
-    };
+    let [a, b, c, d, e, f] = &mut lists.numbers[..] else { unreachable!() };
     let numbers = [a.list(), b.list(), c.list(), d.list(), e.list(), f.list()];
     ours::compile(&case.words, &case.numbers, lists.words.list(), numbers)
 }
@@ -75,10 +64,7 @@ pub fn compare(
     tally: &mut Tally,
     differences: &mut Vec<String>,
 ) {
-    *tally
-        .compile
-        .entry(refusal.map_or(0, |refusal| refusal.0))
-        .or_default() += 1;
+    *tally.compile.entry(refusal.map_or(0, |refusal| refusal.0)).or_default() += 1;
     let counts = ours::counts(&case.words, &case.numbers);
     let objective = ours::objective_constant(&case.words, &case.numbers);
     let (None, Some(file)) = (refusal, file) else {
@@ -91,12 +77,7 @@ pub fn compare(
             let mut lists = lend(lengths);
             let got = run(case, &mut lists);
             if got != packed(refusal) {
-                differences.push(format!(
-                    "compile: {} and not {} {}",
-                    said(got),
-                    refusal.0,
-                    refusal.1
-                ));
+                differences.push(format!("compile: {} and not {} {}", said(got), refusal.0, refusal.1));
             }
             if !untouched(&lists) {
                 differences.push(format!("compile, refusal {}: a list", refusal.0));
@@ -105,45 +86,19 @@ pub fn compare(
         return;
     };
     accepted(case, file, number, tally, differences);
-    let expected = [
-        file.words.len(),
-        file.constants.len(),
-        file.lower.len(),
-        file.row_lower.len(),
-        shared,
-    ];
+    let expected = [file.words.len(), file.constants.len(), file.lower.len(), file.row_lower.len(), shared];
     if counts != expected {
         differences.push(format!("counts: {counts:?} and not {expected:?}"));
     }
     if objective.to_bits() != file.objective.to_bits() {
-        differences.push(format!(
-            "objective constant: {objective:e} and not {:e}",
-            file.objective
-        ));
+        differences.push(format!("objective constant: {objective:e} and not {:e}", file.objective));
     }
 }
 
-fn accepted(
-    case: &Case,
-    file: &File,
-    number: u64,
-    tally: &mut Tally,
-    differences: &mut Vec<String>,
-) {
+fn accepted(case: &Case, file: &File, number: u64, tally: &mut Tally, differences: &mut Vec<String>) {
     let (columns, rows) = (file.lower.len(), file.row_lower.len());
-    assert_eq!(
-        (file.upper.len(), file.start.len(), file.row_upper.len()),
-        (columns, columns, rows)
-    );
-    let needed = [
-        file.words.len(),
-        file.constants.len(),
-        columns,
-        columns,
-        columns,
-        rows,
-        rows,
-    ];
+    assert_eq!((file.upper.len(), file.start.len(), file.row_upper.len()), (columns, columns, rows));
+    let needed = [file.words.len(), file.constants.len(), columns, columns, columns, rows, rows];
     for lengths in [needed, needed.map(|length| length + 3)] {
         let mut lists = lend(lengths);
         let got = run(case, &mut lists);
@@ -156,22 +111,8 @@ fn accepted(
         }
         let mut start = file.start.clone();
         zeros(&mut start, lists.numbers[3].list(), tally);
-        let expected = [
-            &file.constants,
-            &file.lower,
-            &file.upper,
-            &start,
-            &file.row_lower,
-            &file.row_upper,
-        ];
-        let names = [
-            "constants",
-            "column lower",
-            "column upper",
-            "start",
-            "row lower",
-            "row upper",
-        ];
+        let expected = [&file.constants, &file.lower, &file.upper, &start, &file.row_lower, &file.row_upper];
+        let names = ["constants", "column lower", "column upper", "start", "row lower", "row upper"];
         for (i, list) in lists.numbers.iter().enumerate() {
             if !list.holds(expected[i]) {
                 differences.push(format!("compile: {}", names[i]));
@@ -180,11 +121,7 @@ fn accepted(
     }
     // Each list short by one, some with a later one short too.
     let first = (number % 7) as usize;
-    let lists_short = if needed[0] < 4000 {
-        0..7
-    } else {
-        first..first + 1
-    };
+    let lists_short = if needed[0] < 4000 { 0..7 } else { first..first + 1 };
     for short in lists_short {
         let mut lengths = needed;
         lengths[short] -= 1;
@@ -207,10 +144,7 @@ fn accepted(
 fn zeros(start: &mut [f64], ours: &[f64], tally: &mut Tally) {
     for (expected, got) in start.iter_mut().zip(ours) {
         if *expected == 0.0 && expected.is_sign_negative() && got.to_bits() == 0 {
-            *tally
-                .zeros
-                .entry("starts that are -0 in the Rust and +0 here")
-                .or_default() += 1;
+            *tally.zeros.entry("starts that are -0 in the Rust and +0 here").or_default() += 1;
             *expected = 0.0;
         }
     }

@@ -3,15 +3,8 @@
 //!
 //! platform N [SEED]
 
-#[allow(dead_code)]
-#[path = "../oracle/answers.rs"]
-mod answers;
-mod balance;
-mod cases;
-mod networks;
-mod random;
-
-use cases::Case;
+use differential::cases::{self, Case};
+use differential::random;
 use std::collections::BTreeMap;
 
 fn bits(values: &[f64]) -> Vec<u64> {
@@ -22,10 +15,8 @@ fn bits(values: &[f64]) -> Vec<u64> {
 /// What differs.
 fn differences(case: &Case) -> Vec<&'static str> {
     let mut found = Vec::new();
-    let (Some(a), Some(b)) = (
-        oracle_text::network(&case.words, &case.numbers),
-        oracle_platform::network(&case.words, &case.numbers),
-    ) else {
+    let (Some(a), Some(b)) = (oracle_text::network(&case.words, &case.numbers), oracle_platform::network(&case.words, &case.numbers))
+    else {
         return found;
     };
     let (Ok(a), Ok(b)) = (oracle_text::compile(&a), oracle_platform::compile(&b)) else {

@@ -70,17 +70,12 @@ mod model {
         use crate::standin::pounce::{ApplicationReturnStatus, Arc};
         use crate::standin::pounce::{BinOp, Expr, NlProblem, NlProblemParts, NlTnlp, UnaryOp};
         use crate::standin::powerio::LoadVoltageModel;
-        use crate::standin::powerio_matrix::{
-            build_ac_opf_preparation, AcOpfAssemblyOptions, AcOpfPreparation, PreparedObjective,
-            Units,
-        };
+        use crate::standin::powerio_matrix::{build_ac_opf_preparation, AcOpfAssemblyOptions, AcOpfPreparation, PreparedObjective, Units};
         use crate::standin::powerio_prob::AcOpfInstance;
         use crate::standin::sha2::Sha256;
         use crate::standin::{num_complex, powerio_matrix, serde_json};
         use crate::Elementary;
-        use alloc::{
-            boxed::Box, format, string::String, string::ToString, vec, vec::Vec,
-        };
+        use alloc::{boxed::Box, format, string::String, string::ToString, vec, vec::Vec};
 
         include!(concat!(env!("ORACLE_CUT"), "/acopf.rs"));
 
@@ -98,25 +93,10 @@ mod model {
             }
 
             pub fn check(&self, x: &[f64], solver: f64) -> Result<crate::Checked, String> {
-                let solved = validate_primal(
-                    &self.0,
-                    x,
-                    solver,
-                    0,
-                    ApplicationReturnStatus::SolveSucceeded,
-                    0.0,
-                    0.0,
-                    AcOpfRecovery::default(),
-                )?;
+                let solved =
+                    validate_primal(&self.0, x, solver, 0, ApplicationReturnStatus::SolveSucceeded, 0.0, 0.0, AcOpfRecovery::default())?;
                 let r = solved.residuals;
-                let outputs = [
-                    solved.p_injection,
-                    solved.q_injection,
-                    solved.p_from,
-                    solved.q_from,
-                    solved.p_to,
-                    solved.q_to,
-                ];
+                let outputs = [solved.p_injection, solved.q_injection, solved.p_from, solved.q_from, solved.p_to, solved.q_to];
                 Ok(crate::Checked {
                     outputs: outputs.concat(),
                     objective: solved.objective,

@@ -5,22 +5,11 @@
 //! Of each case: the check's number and place, the objective and the eight residuals by bits, the output list lent with one number too
 //! few, as many as needed and three more, with guard numbers around it; compile's number and place, its seven lists by bits, its
 //! counts and objective constant, each list lent short, long enough and longer, with guards. 1 to 6 and 12 are held to document 01
-//! (rules.rs), the rest to the text (answers.rs). NaN is one NaN, and the zeros that `f64::max` leaves open are counted apart.
+//! (rules.rs), the rest to the text (tests/oracle/src/lib.rs). NaN is one NaN, and the zeros that `f64::max` leaves open are counted apart.
 
-#[allow(dead_code)]
-#[path = "../oracle/answers.rs"]
-mod answers;
-mod balance;
-mod cases;
-mod compare;
-mod compiled;
-mod networks;
-mod ours;
-mod random;
-mod rules;
-
-use cases::Case;
-use compare::Tally;
+use differential::cases::{self, Case};
+use differential::compare::{self, Tally};
+use differential::random;
 use std::fmt::Write as _;
 
 /// Cases that differ are printed, so many at most.

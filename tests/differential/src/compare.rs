@@ -1,8 +1,8 @@
 //! One case on both sides.
 
-use crate::answers::{self, Answer, Compiled, Network, Refusal, TOLERANCE};
 use crate::cases::Case;
 use crate::{ours, rules};
+use oracle::{Answer, Compiled, Network, Refusal, TOLERANCE};
 use std::collections::BTreeMap;
 use std::panic::{catch_unwind, AssertUnwindSafe};
 
@@ -49,11 +49,8 @@ impl Lent {
     /// Whether the front is these numbers and all the rest, with the guards, as it was.
     pub fn holds(&self, front: &[f64]) -> bool {
         let end = GUARDS + front.len();
-        let front_right = end <= GUARDS + self.length
-            && self.cells[GUARDS..end]
-                .iter()
-                .zip(front)
-                .all(|(cell, value)| *cell == value.to_bits());
+        let front_right =
+            end <= GUARDS + self.length && self.cells[GUARDS..end].iter().zip(front).all(|(cell, value)| *cell == value.to_bits());
         let kept = |i: &usize| self.cells[*i] == GUARD + *i as u64;
         front_right && (0..GUARDS).all(|i| kept(&i)) && (end..self.cells.len()).all(|i| kept(&i))
     }
@@ -72,7 +69,7 @@ enum Text {
 }
 
 fn text_of(case: &Case) -> Text {
-    let run = AssertUnwindSafe(|| answers::network(&case.words, &case.numbers));
+    let run = AssertUnwindSafe(|| oracle::network(&case.words, &case.numbers));
     match catch_unwind(run) {
         Err(_) => Text::Panic,
         Ok(Network::Form) => Text::Form,
@@ -87,15 +84,11 @@ pub fn case(case: &Case, number: u64, tally: &mut Tally) -> Vec<String> {
     let early = rules::first_six(&case.words, &case.numbers);
     let refusal = match (early, &text) {
         (Some(refusal), _) => {
-            *tally
-                .text
-                .entry((refusal.0, network_kind(&text)))
-                .or_default() += 1;
+            *tally.text.entry((refusal.0, network_kind(&text))).or_default() += 1;
             Some(refusal)
         }
         (None, Text::Form | Text::Panic) => {
-            differences
-                .push("the text refuses the form, or panics, where 1 to 6 do not".to_owned());
+            differences.push("the text refuses the form, or panics, where 1 to 6 do not".to_owned());
             return differences;
         }
         (None, Text::Error(refusal)) => Some(*refusal),
@@ -104,8 +97,8 @@ pub fn case(case: &Case, number: u64, tally: &mut Tally) -> Vec<String> {
             if let Some((_, place)) = refusal {
                 *tally.text.entry((11, network_kind(&text))).or_default() += 1;
                 let constants = compiled.file.constants.len();
-                let kind = ["11: constant", "11: objective constant", "11: start"]
-                    [(place >= constants) as usize + (place > constants) as usize];
+                let kind =
+                    ["11: constant", "11: objective constant", "11: start"][(place >= constants) as usize + (place > constants) as usize];
                 *tally.places.entry(kind.to_owned()).or_default() += 1;
             }
             refusal
@@ -113,9 +106,7 @@ pub fn case(case: &Case, number: u64, tally: &mut Tally) -> Vec<String> {
     };
     let kept = (case.words.clone(), bits(&case.numbers), bits(&case.x));
     match (&refusal, &text) {
-        (None, Text::Compiled(compiled)) => {
-            check_accepted(case, compiled, number, tally, &mut differences)
-        }
+        (None, Text::Compiled(compiled)) => check_accepted(case, compiled, number, tally, &mut differences),
         (Some(refusal), _) => check_refused(case, *refusal, tally, &mut differences),
         _ => unreachable!("a network without a refusal is compiled"),
     }
@@ -131,10 +122,7 @@ pub fn case(case: &Case, number: u64, tally: &mut Tally) -> Vec<String> {
 }
 
 fn of_kind(case: &Case, kind: u32) -> usize {
-    case.words
-        .iter()
-        .filter(|&&word| word >> 28 == kind)
-        .count()
+    case.words.iter().filter(|&&word| word >> 28 == kind).count()
 }
 
 fn buses(case: &Case) -> usize {
@@ -166,42 +154,32 @@ fn check_refused(case: &Case, refusal: Refusal, tally: &mut Tally, differences: 
     *tally.check.entry(refusal.0).or_default() += 1;
     if refusal.0 == 7 {
         let (n, k) = (buses(case), generators(case));
-        let kind = ["7: vm", "7: pg", "7: qg"]
-            [(refusal.1 >= 2 * n) as usize + (refusal.1 >= 2 * n + k) as usize];
+        let kind = ["7: vm", "7: pg", "7: qg"][(refusal.1 >= 2 * n) as usize + (refusal.1 >= 2 * n + k) as usize];
         *tally.places.entry(kind.to_owned()).or_default() += 1;
     }
     let needed = 2 * buses(case) + 4 * of_kind(case, 4);
     for length in [0, needed, needed + 3] {
         one_check(case, length, refusal, None, tally, differences);
     }
+    for length in [0, 9] {
+        one_report(case, length, refusal, None, differences);
+    }
+    if ours::outputs(&case.words, &case.numbers) != 0 {
+        differences.push("outputs, refused: not 0".to_owned());
+    }
 }
 
-fn check_accepted(
-    case: &Case,
-    compiled: &Compiled,
-    number: u64,
-    tally: &mut Tally,
-    differences: &mut Vec<String>,
-) {
+fn check_accepted(case: &Case, compiled: &Compiled, number: u64, tally: &mut Tally, differences: &mut Vec<String>) {
     let needed = 2 * compiled.buses + 4 * compiled.branches;
     let answered = compiled.point(&case.x, case.solver);
     let refusal = answered.refusal.unwrap_or((0, 0));
     *tally.check.entry(refusal.0).or_default() += 1;
     let (n, m) = (compiled.buses, compiled.branches);
     let kind = match refusal {
-        (13, _) => Some(
-            if case.x.len() == compiled.columns() {
-                "13: column"
-            } else {
-                "13: length"
-            }
-            .to_owned(),
-        ),
+        (13, _) => Some(if case.x.len() == compiled.columns() { "13: column" } else { "13: length" }.to_owned()),
         (15, place) if place < 2 * n => Some("15: injection".to_owned()),
         (15, place) if place < 2 * n + 4 * m => Some("15: flow".to_owned()),
-        (15, place) => {
-            Some(["15: solver's objective", "15: own objective"][place - 2 * n - 4 * m].to_owned())
-        }
+        (15, place) => Some(["15: solver's objective", "15: own objective"][place - 2 * n - 4 * m].to_owned()),
         (16, place) => Some(format!("16: residual {place}")),
         _ => None,
     };
@@ -211,22 +189,14 @@ fn check_accepted(
     if let (Some(answer), 0 | 16) = (&answered.answer, refusal.0) {
         for (i, residual) in answer.residuals.iter().enumerate() {
             if (residual - TOLERANCE).abs() <= 1e-15 {
-                let side = if *residual > TOLERANCE {
-                    "above"
-                } else {
-                    "not above"
-                };
+                let side = if *residual > TOLERANCE { "above" } else { "not above" };
                 let kind = format!("residual {} within 1e-15 of its tolerance, {side}", i + 1);
                 *tally.places.entry(kind).or_default() += 1;
             }
         }
     }
     if refusal.0 == 14 {
-        let kind = if answered.error.is_none() {
-            "accepted"
-        } else {
-            "refused for another reason"
-        };
+        let kind = if answered.error.is_none() { "accepted" } else { "refused for another reason" };
         *tally.text.entry((14, kind)).or_default() += 1;
     }
     if refusal.0 == 0 {
@@ -246,17 +216,17 @@ fn check_accepted(
     if number % 64 == 0 {
         one_check(case, 0, (12, 1), None, tally, differences);
     }
+    one_report(case, 9, refusal, answer, differences);
+    one_report(case, 12, refusal, answer, differences);
+    one_report(case, 8, (12, 1), None, differences);
+    let outputs = ours::outputs(&case.words, &case.numbers);
+    if outputs != needed {
+        differences.push(format!("outputs: {outputs} and not {needed}"));
+    }
 }
 
 /// The check with an output list of this length, by all its functions.
-fn one_check(
-    case: &Case,
-    length: usize,
-    refusal: Refusal,
-    answer: Option<&Answer>,
-    tally: &mut Tally,
-    differences: &mut Vec<String>,
-) {
+fn one_check(case: &Case, length: usize, refusal: Refusal, answer: Option<&Answer>, tally: &mut Tally, differences: &mut Vec<String>) {
     let (words, numbers, x, solver) = (&case.words, &case.numbers, &case.x, case.solver);
     let front: &[f64] = match answer {
         Some(answer) if refusal.0 == 0 => &answer.outputs,
@@ -268,20 +238,11 @@ fn one_check(
         tally.short_check += 1;
     }
     if got != packed(refusal) {
-        differences.push(format!(
-            "check, {length} outputs lent: {} {} and not {} {}",
-            got >> 32,
-            got & 0xffff_ffff,
-            refusal.0,
-            refusal.1
-        ));
+        differences.push(format!("check, {length} outputs lent: {} {} and not {} {}", got >> 32, got & 0xffff_ffff, refusal.0, refusal.1));
         return;
     }
     if !lent.holds(front) {
-        differences.push(format!(
-            "check, {length} outputs lent, refusal {}: the list",
-            refusal.0
-        ));
+        differences.push(format!("check, {length} outputs lent, refusal {}: the list", refusal.0));
     }
     let objective = match answer {
         Some(answer) if refusal.0 == 0 => answer.objective,
@@ -304,10 +265,7 @@ fn one_check(
         let got = ours::residual(words, numbers, x, solver, lent.list(), i);
         if got == 0.0 && residual == 0.0 && got.is_sign_positive() {
             if residual.is_sign_negative() {
-                *tally
-                    .zeros
-                    .entry("residuals that are -0 in the Rust")
-                    .or_default() += 1;
+                *tally.zeros.entry("residuals that are -0 in the Rust").or_default() += 1;
             }
         } else if got.to_bits() != residual.to_bits() {
             differences.push(format!("residual {i}: {got:e} and not {residual:e}"));
@@ -318,12 +276,34 @@ fn one_check(
     }
 }
 
+/// The residuals and the objective by one run, with a list of this length: no residual refuses it.
+fn one_report(case: &Case, length: usize, refusal: Refusal, answer: Option<&Answer>, differences: &mut Vec<String>) {
+    let refusal = if refusal.0 == 16 { (0, 0) } else { refusal };
+    let mut lent = Lent::new(length);
+    let got = ours::residuals(&case.words, &case.numbers, &case.x, case.solver, lent.list());
+    if got != packed(refusal) {
+        differences.push(format!("residuals: {} {} and not {} {}", got >> 32, got & 0xffff_ffff, refusal.0, refusal.1));
+        return;
+    }
+    let mut front = Vec::new();
+    if let (Some(answer), 0) = (answer, refusal.0) {
+        front.extend(answer.residuals);
+        // A zero's sign is left to `f64::max`; the getters have counted it.
+        for (expected, got) in front.iter_mut().zip(lent.list()) {
+            if *expected == 0.0 && got.to_bits() == 0 {
+                *expected = 0.0;
+            }
+        }
+        front.push(answer.objective);
+    }
+    if !lent.holds(&front) {
+        differences.push(format!("residuals, {length} numbers lent, refusal {}: the list", refusal.0));
+    }
+}
+
 impl Tally {
     pub fn print(&self, count: u64, seed: u64) {
-        println!(
-            "{count} cases under seed {seed}; {} with a difference that is not explained\n",
-            self.different
-        );
+        println!("{count} cases under seed {seed}; {} with a difference that is not explained\n", self.different);
         println!("| answer | check | compile |\n|---|---|---|");
         for number in 0..=16 {
             let of = |table: &BTreeMap<u32, u64>| match table.get(&number) {
@@ -331,17 +311,10 @@ impl Tally {
                 None => "-".to_owned(),
             };
             if number == 12 {
-                println!(
-                    "| 12, the accepted networks with a list lent too short | {} | {} |",
-                    self.short_check, self.short
-                );
+                println!("| 12, the accepted networks with a list lent too short | {} | {} |", self.short_check, self.short);
                 continue;
             }
-            let name = if number == 0 {
-                "accepted".to_owned()
-            } else {
-                number.to_string()
-            };
+            let name = if number == 0 { "accepted".to_owned() } else { number.to_string() };
             println!("| {name} | {} | {} |", of(&self.check), of(&self.compile));
         }
         println!("\nby place:");

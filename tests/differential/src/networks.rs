@@ -74,11 +74,7 @@ impl Net {
         let word = |kind: u32, load: usize| kind << 28 | load as u32;
         let mut words = vec![word(1, self.costs as usize)];
         words.extend(self.buses.iter().map(|b| word(2, b.bounded as usize)));
-        words.extend(
-            self.generators
-                .iter()
-                .map(|g| word(3, g.bus | (g.bounded as usize) << 12 | g.curve.len() << 13)),
-        );
+        words.extend(self.generators.iter().map(|g| word(3, g.bus | (g.bounded as usize) << 12 | g.curve.len() << 13)));
         words.extend(self.branches.iter().map(|b| {
             let flags = (b.angled as usize) << 24 | (b.limited as usize) << 25;
             word(4, b.from | b.to << 12 | flags)
@@ -133,12 +129,7 @@ pub struct Sizes(pub usize, pub usize, pub usize, pub usize);
 pub const LIMITS: Sizes = Sizes(256, 256, 512, 256);
 
 pub fn sizes(random: &mut Random) -> Sizes {
-    let small = Sizes(
-        random.whole(1, 6),
-        random.whole(0, 5),
-        random.whole(0, 8),
-        random.whole(0, 3),
-    );
+    let small = Sizes(random.whole(1, 6), random.whole(0, 5), random.whole(0, 8), random.whole(0, 3));
     match random.below(4000) {
         0 => LIMITS,
         1 => Sizes { 0: 256, ..small },
@@ -154,12 +145,7 @@ pub fn sizes(random: &mut Random) -> Sizes {
         11 => Sizes(118, 54, 186, 1),
         12 => Sizes(256, 256, 512, 1),
         13..=40 => Sizes(0, 0, 0, 0),
-        41..=80 => Sizes(
-            random.whole(7, 40),
-            random.whole(0, 30),
-            random.whole(0, 60),
-            random.whole(0, 8),
-        ),
+        41..=80 => Sizes(random.whole(7, 40), random.whole(0, 30), random.whole(0, 60), random.whole(0, 8)),
         _ => small,
     }
 }
@@ -182,18 +168,10 @@ pub struct Manner {
 pub fn net(random: &mut Random, sizes: Sizes, costs: bool, manner: Manner) -> Net {
     let buses = (0..sizes.0).map(|_| bus(random, manner)).collect();
     let ends = sizes.0.max(1);
-    let generators = (0..sizes.1)
-        .map(|_| generator(random, ends, manner))
-        .collect();
+    let generators = (0..sizes.1).map(|_| generator(random, ends, manner)).collect();
     let branches = (0..sizes.2).map(|_| branch(random, ends, manner)).collect();
     let references = (0..sizes.3).map(|_| random.below(ends)).collect();
-    Net {
-        costs,
-        buses,
-        generators,
-        branches,
-        references,
-    }
+    Net { costs, buses, generators, branches, references }
 }
 
 fn finite(random: &mut Random, manner: Manner, low: f64, high: f64) -> f64 {
@@ -285,11 +263,7 @@ fn generator(random: &mut Random, buses: usize, m: Manner) -> Generator {
 
 fn branch(random: &mut Random, buses: usize, m: Manner) -> Branch {
     let from = random.below(buses);
-    let to = if random.chance(60) {
-        from
-    } else {
-        random.below(buses)
-    };
+    let to = if random.chance(60) { from } else { random.below(buses) };
     let tap = match random.below(12) {
         0..=3 => 1.0,
         4 => random.between(-1.2, -0.8),
@@ -300,13 +274,7 @@ fn branch(random: &mut Random, buses: usize, m: Manner) -> Branch {
         0..=3 => 0.0,
         4 => -0.0,
         5 => random.between(-1024.0, 1024.0),
-        6 => random.one_of(&[
-            1024.0,
-            -1024.0,
-            1024f64.next_down(),
-            1.5707963267948966,
-            -3.141592653589793,
-        ]),
+        6 => random.one_of(&[1024.0, -1024.0, 1024f64.next_down(), 1.5707963267948966, -3.141592653589793]),
         _ => random.between(-0.5, 0.5),
     };
     Branch {
@@ -321,11 +289,7 @@ fn branch(random: &mut Random, buses: usize, m: Manner) -> Branch {
             finite(random, m, -0.05, 0.1),
             finite(random, m, -0.02, 0.02),
             finite(random, m, -0.05, 0.1),
-            if random.chance(m.special) {
-                random.one_of(&FINITE)
-            } else {
-                tap
-            },
+            if random.chance(m.special) { random.one_of(&FINITE) } else { tap },
             shift,
             any(random, m, -3000.0, -2.0),
             any(random, m, 2.0, 3000.0),
@@ -348,17 +312,11 @@ pub fn point(random: &mut Random, net: &Net, wide: bool) -> Vec<f64> {
         match random.below(10) {
             0 => low,
             1 => high,
-            _ => random
-                .between(low, high)
-                .clamp(low.min(high), low.max(high)),
+            _ => random.between(low, high).clamp(low.min(high), low.max(high)),
         }
     };
     let reach = if wide { 1024.0 } else { 0.3 };
-    let mut va: Vec<f64> = net
-        .buses
-        .iter()
-        .map(|_| random.between(-reach, reach))
-        .collect();
+    let mut va: Vec<f64> = net.buses.iter().map(|_| random.between(-reach, reach)).collect();
     for &bus in &net.references {
         if let Some(va) = va.get_mut(bus) {
             *va = random.one_of(&[0.0, 0.0, -0.0]);
@@ -372,13 +330,7 @@ pub fn point(random: &mut Random, net: &Net, wide: bool) -> Vec<f64> {
     for part in [0, 2] {
         for generator in &net.generators {
             let n = &generator.numbers;
-            x.push(inside(
-                random,
-                generator.bounded,
-                n[part],
-                n[part + 1],
-                [-1.0, 2.0],
-            ));
+            x.push(inside(random, generator.bounded, n[part], n[part + 1], [-1.0, 2.0]));
         }
     }
     let first = 2 * net.buses.len();

@@ -4,24 +4,10 @@
 //! and in brackets the middle one. Lists are lent once for a network and not cleared between calls. The Rust's models and answers are
 //! dropped outside the time.
 
-#[allow(dead_code)]
-#[path = "../oracle/answers.rs"]
-mod answers;
-#[allow(dead_code)]
-#[path = "../differential/balance.rs"]
-mod balance;
-#[allow(dead_code)]
-#[path = "../differential/networks.rs"]
-mod networks;
-#[allow(dead_code)]
-#[path = "../differential/ours.rs"]
-mod ours;
-#[allow(dead_code)]
-#[path = "../differential/random.rs"]
-mod random;
-
-use networks::{Manner, Net, Sizes};
-use random::Random;
+use differential::balance;
+use differential::networks::{self, Manner, Net, Sizes};
+use differential::ours;
+use differential::random::Random;
 use std::hint::black_box;
 use std::time::Instant;
 
@@ -47,11 +33,7 @@ impl<'a> Timed<'a> {
             }
             start.elapsed().as_nanos() as f64
         });
-        Self {
-            run,
-            calls: 1,
-            batches: Vec::new(),
-        }
+        Self { run, calls: 1, batches: Vec::new() }
     }
 
     fn warm(&mut self) {
@@ -78,13 +60,7 @@ fn measure(timed: &mut [Timed]) -> Vec<[f64; 2]> {
 
 fn case(sizes: Sizes, curves: bool) -> (Net, Vec<f64>, f64) {
     let mut random = Random::new(1998);
-    let manner = Manner {
-        special: 0,
-        non_finite: 0,
-        curves: if curves { 1000 } else { 0 },
-        active: 1000,
-        points: 16,
-    };
+    let manner = Manner { special: 0, non_finite: 0, curves: if curves { 1000 } else { 0 }, active: 1000, points: 16 };
     let mut net = networks::net(&mut random, sizes, true, manner);
     for generator in &mut net.generators {
         // As many points in every curve.
@@ -108,11 +84,7 @@ fn case(sizes: Sizes, curves: bool) -> (Net, Vec<f64>, f64) {
 
 fn main() {
     println!("microseconds a call: least of {BATCHES} batches [middle batch]; lists lent once, not cleared\n");
-    for sizes in [
-        Sizes(1, 1, 0, 1),
-        Sizes(118, 54, 186, 1),
-        Sizes(256, 256, 512, 1),
-    ] {
+    for sizes in [Sizes(1, 1, 0, 1), Sizes(118, 54, 186, 1), Sizes(256, 256, 512, 1)] {
         for curves in [false, true] {
             let (net, x, own) = case(sizes, curves);
             whole(&net, &x, own, sizes, curves);
@@ -150,11 +122,7 @@ fn whole(net: &Net, x: &[f64], own: f64, sizes: Sizes, curves: bool) {
     ];
     let times = measure(&mut timed);
     let Sizes(buses, generators, branches, _) = sizes;
-    let with = if curves {
-        "curves of 16 points"
-    } else {
-        "no curves"
-    };
+    let with = if curves { "curves of 16 points" } else { "no curves" };
     println!("{buses}/{generators}/{branches}, {with}");
     say("Rust, fdlibm: compile", times[0]);
     say("Rust, fdlibm: validate_primal", times[1]);
@@ -170,33 +138,13 @@ fn whole(net: &Net, x: &[f64], own: f64, sizes: Sizes, curves: bool) {
             println!("  {name:<44} {:>9.2}", over / ours);
         }
     };
-    ratio(
-        "Rust compile + validate_primal over check",
-        both(0),
-        times[4][0],
-        8.0,
-    );
+    ratio("Rust compile + validate_primal over check", both(0), times[4][0], 8.0);
     ratio("the same, the platform's sine", both(2), times[4][0], 8.0);
-    ratio(
-        "Rust validate_primal over check",
-        times[1][0],
-        times[4][0],
-        0.0,
-    );
-    ratio(
-        "the same, the platform's sine",
-        times[3][0],
-        times[4][0],
-        0.0,
-    );
+    ratio("Rust validate_primal over check", times[1][0], times[4][0], 0.0);
+    ratio("the same, the platform's sine", times[3][0], times[4][0], 0.0);
     say("port: compile", times[5]);
     ratio("Rust compile over compile", times[0][0], times[5][0], 4.0);
-    ratio(
-        "the same, the platform's sine",
-        times[2][0],
-        times[5][0],
-        4.0,
-    );
+    ratio("the same, the platform's sine", times[2][0], times[5][0], 4.0);
 }
 
 /// compile's seven lists, in refusal 12's order.
@@ -209,10 +157,7 @@ struct Lists {
 fn lent(words: &[u32], numbers: &[f64]) -> Lists {
     let [words, constants, columns, rows, _] = ours::counts(words, numbers);
     let list = |count| vec![0.0; count];
-    Lists {
-        words: vec![0; words],
-        numbers: [constants, columns, columns, columns, rows, rows].map(list),
-    }
+    Lists { words: vec![0; words], numbers: [constants, columns, columns, columns, rows, rows].map(list) }
 }
 
 fn compile_into(words: &[u32], numbers: &[f64], lists: &mut Lists) -> u64 {
@@ -230,25 +175,14 @@ fn parts(net: &Net, x: &[f64], own: f64) {
     let mut far = x.to_vec();
     far[n - 1] = 1025.0;
     let mut without = net.clone();
-    without
-        .branches
-        .iter_mut()
-        .for_each(|branch| branch.limited = false);
+    without.branches.iter_mut().for_each(|branch| branch.limited = false);
     let unlimited = without.words();
     let mut lists = vec![vec![0.0; needed]; 5];
-    let [a, b, c, d, e] = &mut lists[..] else {
-        unreachable!()
-    };
+    let [a, b, c, d, e] = &mut lists[..] else { unreachable!() };
     assert!([7, 10].contains(&number(ours::check(&words, &last, x, own, a))));
-    assert_eq!(
-        number(ours::check(&words, &numbers, x, own, &mut b[1..])),
-        12
-    );
+    assert_eq!(number(ours::check(&words, &numbers, x, own, &mut b[1..])), 12);
     assert_eq!(number(ours::check(&words, &numbers, &far, own, c)), 14);
-    assert_eq!(
-        number(ours::check(&words, &numbers, x, f64::INFINITY, d)),
-        15
-    );
+    assert_eq!(number(ours::check(&words, &numbers, x, f64::INFINITY, d)), 15);
     assert_eq!(number(ours::check(&unlimited, &numbers, x, own, e)), 0);
     let mut f = vec![0.0; needed];
     let mut timed = vec![
@@ -262,9 +196,7 @@ fn parts(net: &Net, x: &[f64], own: f64) {
     let times = measure(&mut timed);
     let at = |i: usize| times[i][0];
     println!("  the check by part, by the refusal that ends it:");
-    let part = |name: &str, time: f64| {
-        println!("    {name:<42} {time:>9.2} {:>4.0} %", 100.0 * time / at(5))
-    };
+    let part = |name: &str, time: f64| println!("    {name:<42} {time:>9.2} {:>4.0} %", 100.0 * time / at(5));
     part("network: refusals 1 to 10", at(0));
     part("constants: refusal 11", at(1) - at(0));
     part("point: refusals 12 to 14", at(2) - at(1));
@@ -278,11 +210,7 @@ fn parts(net: &Net, x: &[f64], own: f64) {
 fn compile_parts(net: &Net) {
     let (words, numbers) = (net.words(), net.numbers());
     let last = last_wrong(net);
-    let (mut a, mut b, mut c) = (
-        lent(&words, &numbers),
-        lent(&words, &numbers),
-        lent(&words, &numbers),
-    );
+    let (mut a, mut b, mut c) = (lent(&words, &numbers), lent(&words, &numbers), lent(&words, &numbers));
     b.numbers[5].pop();
     let number = |refusal: u64| refusal >> 32;
     assert!([7, 10].contains(&number(compile_into(&words, &last, &mut a))));
@@ -296,9 +224,7 @@ fn compile_parts(net: &Net) {
     let times = measure(&mut timed);
     let at = |i: usize| times[i][0];
     println!("  compile by part:");
-    let part = |name: &str, time: f64| {
-        println!("    {name:<42} {time:>9.2} {:>4.0} %", 100.0 * time / at(2))
-    };
+    let part = |name: &str, time: f64| println!("    {name:<42} {time:>9.2} {:>4.0} %", 100.0 * time / at(2));
     part("network: refusals 1 to 10", at(0));
     part("constants and counts: refusals 11 and 12", at(1) - at(0));
     part("the seven lists", at(2) - at(1));
@@ -308,10 +234,7 @@ fn compile_parts(net: &Net) {
 /// How the cost grows with the network, and with each list alone.
 fn growth() {
     println!("growth, no curves");
-    println!(
-        "  {:<16} {:>14} {:>12} {:>12} {:>12}",
-        "", "Rust: compile", "validate", "port: check", "compile"
-    );
+    println!("  {:<16} {:>14} {:>12} {:>12} {:>12}", "", "Rust: compile", "validate", "port: check", "compile");
     let all = [
         Sizes(32, 32, 64, 1),
         Sizes(64, 64, 128, 1),
@@ -339,14 +262,7 @@ fn growth() {
         let times = measure(&mut timed);
         let Sizes(n, k, m, _) = sizes;
         let least: Vec<f64> = times.iter().map(|time| time[0]).collect();
-        println!(
-            "  {:<16} {:>14.2} {:>12.2} {:>12.2} {:>12.2}",
-            format!("{n}/{k}/{m}"),
-            least[0],
-            least[1],
-            least[2],
-            least[3]
-        );
+        println!("  {:<16} {:>14.2} {:>12.2} {:>12.2} {:>12.2}", format!("{n}/{k}/{m}"), least[0], least[1], least[2], least[3]);
     }
 }
 

@@ -242,10 +242,7 @@ pub mod powerio_matrix {
     }
 
     /// The tables handed in, as they are.
-    pub fn build_ac_opf_preparation(
-        instance: &AcOpfInstance,
-        _: &AcOpfAssemblyOptions,
-    ) -> Result<AcOpfPreparation, PreparationError> {
+    pub fn build_ac_opf_preparation(instance: &AcOpfInstance, _: &AcOpfAssemblyOptions) -> Result<AcOpfPreparation, PreparationError> {
         Ok(instance.tables.clone())
     }
 }
@@ -275,13 +272,7 @@ pub mod powerio_prob {
 
     impl AcOpfInstance {
         pub(crate) fn new(tables: AcOpfPreparation) -> Self {
-            Self {
-                tables,
-                network: Network::default(),
-                constraints: Constraints {
-                    thermal_limits: Selector,
-                },
-            }
+            Self { tables, network: Network::default(), constraints: Constraints { thermal_limits: Selector } }
         }
         pub fn network(&self) -> &Network {
             &self.network
@@ -317,19 +308,13 @@ pub mod pounce {
 
     impl<T> Arc<T> {
         pub fn new(value: T) -> Self {
-            Self {
-                number: CREATED.fetch_add(1, Ordering::Relaxed),
-                value: alloc::sync::Arc::new(value),
-            }
+            Self { number: CREATED.fetch_add(1, Ordering::Relaxed), value: alloc::sync::Arc::new(value) }
         }
     }
 
     impl<T> Clone for Arc<T> {
         fn clone(&self) -> Self {
-            Self {
-                number: self.number,
-                value: self.value.clone(),
-            }
+            Self { number: self.number, value: self.value.clone() }
         }
     }
 
@@ -383,12 +368,7 @@ pub mod pounce {
     impl NlProblem {
         /// The parts as they are: document 01 leaves the original out.
         pub fn from_expressions(parts: NlProblemParts) -> Result<Self, String> {
-            Ok(Self {
-                n: parts.x_l.len(),
-                x_l: parts.x_l.clone(),
-                x_u: parts.x_u.clone(),
-                parts,
-            })
+            Ok(Self { n: parts.x_l.len(), x_l: parts.x_l.clone(), x_u: parts.x_u.clone(), parts })
         }
     }
 
@@ -564,10 +544,7 @@ pub mod num_complex {
     impl Mul for Complex64 {
         type Output = Self;
         fn mul(self, w: Self) -> Self {
-            Self::new(
-                self.re * w.re - self.im * w.im,
-                self.re * w.im + self.im * w.re,
-            )
+            Self::new(self.re * w.re - self.im * w.im, self.re * w.im + self.im * w.re)
         }
     }
 
@@ -575,10 +552,7 @@ pub mod num_complex {
         type Output = Self;
         fn div(self, w: Self) -> Self {
             let n = w.norm_sqr();
-            Self::new(
-                (self.re * w.re + self.im * w.im) / n,
-                (self.im * w.re - self.re * w.im) / n,
-            )
+            Self::new((self.re * w.re + self.im * w.im) / n, (self.im * w.re - self.re * w.im) / n)
         }
     }
 

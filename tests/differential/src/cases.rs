@@ -62,21 +62,13 @@ pub fn case(seed: u64, number: u64) -> Case {
             }
             (x, own)
         }
-        18 => (
-            x.iter().map(|_| random.between(-2.0, 2.0)).collect(),
-            random.between(-2.0, 2.0),
-        ),
+        18 => (x.iter().map(|_| random.between(-2.0, 2.0)).collect(), random.between(-2.0, 2.0)),
         _ => {
             let own = balance(&mut net, &x).unwrap_or(0.0);
             wrong_point(random, &mut x, own)
         }
     };
-    let mut case = Case {
-        words: net.words(),
-        numbers: net.numbers(),
-        x,
-        solver,
-    };
+    let mut case = Case { words: net.words(), numbers: net.numbers(), x, solver };
     if random.chance(150) {
         for _ in 0..random.one_of(&[1, 1, 1, 2, 3]) {
             damage(random, &mut case);
@@ -151,10 +143,7 @@ fn near(random: &mut Random, net: &mut Net, mut x: Vec<f64>) -> (Vec<f64>, f64) 
             let column = n + random.below(n + 2 * k);
             let numbers = if column < 2 * n {
                 net.buses[column - n].bounded = true;
-                [
-                    net.buses[column - n].numbers[4],
-                    net.buses[column - n].numbers[5],
-                ]
+                [net.buses[column - n].numbers[4], net.buses[column - n].numbers[5]]
             } else {
                 let part = (column - 2 * n) / k * 2;
                 let generator = &mut net.generators[(column - 2 * n) % k];
@@ -243,8 +232,8 @@ fn pick<'a, T>(random: &mut Random, list: &'a mut [T]) -> Option<&'a mut T> {
 
 /// Sets one branch's s_max to its larger flow less the tolerance, or next to it.
 fn rate(random: &mut Random, net: &mut Net, x: &[f64], off: f64) {
-    use crate::answers::{self, Network};
-    let Network::Compiled(compiled) = answers::network(&net.words(), &net.numbers()) else {
+    use oracle::Network;
+    let Network::Compiled(compiled) = oracle::network(&net.words(), &net.numbers()) else {
         return;
     };
     let Some(answer) = compiled.outcome(x, 0.0) else {
@@ -305,9 +294,7 @@ fn damage(random: &mut Random, case: &mut Case) {
         8 => numbers.push(random.one_of(&FINITE)),
         9 if !numbers.is_empty() => numbers[number] = random.one_of(&NON_FINITE),
         10 if !numbers.is_empty() => numbers[number] = random.one_of(&FINITE),
-        _ if !numbers.is_empty() => {
-            numbers[number] = f64::from_bits(numbers[number].to_bits() ^ 1 << random.below(64))
-        }
+        _ if !numbers.is_empty() => numbers[number] = f64::from_bits(numbers[number].to_bits() ^ 1 << random.below(64)),
         _ => {}
     }
 }

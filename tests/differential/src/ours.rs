@@ -1,16 +1,11 @@
 //! The port through the C boundary, by the host's own declarations.
 
-#[allow(dead_code)]
-#[path = "../../host/src/boundary/mod.rs"]
-mod boundary;
-
-use boundary::compile;
-#[allow(unused_imports)]
-pub use boundary::compile::fervoulk_objective_constant as objective_constant;
-#[allow(unused_imports)]
-pub use boundary::nl;
-#[allow(unused_imports)]
-pub use boundary::validate::{fervoulk_check as check, fervoulk_objective as objective, fervoulk_residual as residual};
+use fervoulk::boundary::compile;
+pub use fervoulk::boundary::compile::fervoulk_objective_constant as objective_constant;
+pub use fervoulk::boundary::validate::{
+    fervoulk_check as check, fervoulk_objective as objective, fervoulk_outputs as outputs, fervoulk_residual as residual,
+    fervoulk_residuals as residuals,
+};
 
 /// The lists of f64 are in document 01's order, constants first.
 pub fn compile(words: &[u32], numbers: &[f64], model: &mut [u32], lists: [&mut [f64]; 6]) -> u64 {

@@ -32,10 +32,7 @@ pub struct Compiled {
 }
 
 pub fn network(words: &[u32], numbers: &[f64]) -> Network {
-    let (Some(instance), Some(lifted)) = (
-        oracle_text::network(words, numbers),
-        oracle_lifted::network(words, numbers),
-    ) else {
+    let (Some(instance), Some(lifted)) = (oracle_text::network(words, numbers), oracle_lifted::network(words, numbers)) else {
         return Network::Form;
     };
     let count = |kind| words.iter().filter(|&&word| word >> 28 == kind).count();
@@ -51,14 +48,7 @@ pub fn network(words: &[u32], numbers: &[f64]) -> Network {
     let factors = file.constants.iter().chain([&file.objective]);
     let factor = factors.chain(&file.start).position(|v| !v.is_finite());
     let lifted = oracle_lifted::compile(&lifted).expect("compiled above");
-    Network::Compiled(Compiled {
-        model,
-        lifted,
-        file,
-        factor,
-        buses: n,
-        branches: m,
-    })
+    Network::Compiled(Compiled { model, lifted, file, factor, buses: n, branches: m })
 }
 
 pub struct Point {
@@ -95,11 +85,7 @@ impl Compiled {
             Ok(checked) => {
                 return Point {
                     error: None,
-                    answer: Some(Answer {
-                        outputs: checked.outputs,
-                        objective: checked.objective,
-                        residuals: checked.residuals,
-                    }),
+                    answer: Some(Answer { outputs: checked.outputs, objective: checked.objective, residuals: checked.residuals }),
                     refusal: swing(x, n).map(|column| (14, column)),
                 }
             }
@@ -109,16 +95,8 @@ impl Compiled {
         let kind = message.split(" (max").next().unwrap_or(&message).to_owned();
         let Some(lifted) = self.outcome(x, solver) else {
             assert!(message.contains("wrong-length"));
-            let place = if x.len() == self.columns() {
-                x.iter().position(|v| !v.is_finite()).expect("a column")
-            } else {
-                self.columns()
-            };
-            return Point {
-                error: Some(kind),
-                answer: None,
-                refusal: Some((13, place)),
-            };
+            let place = if x.len() == self.columns() { x.iter().position(|v| !v.is_finite()).expect("a column") } else { self.columns() };
+            return Point { error: Some(kind), answer: None, refusal: Some((13, place)) };
         };
         let refusal = if let Some(column) = swing(x, n) {
             (14, column)
@@ -132,11 +110,7 @@ impl Compiled {
             let above = lifted.residuals.iter().position(|&r| r > TOLERANCE);
             (16, above.expect("a residual above its tolerance") + 1)
         };
-        Point {
-            error: Some(kind),
-            answer: Some(lifted),
-            refusal: Some(refusal),
-        }
+        Point { error: Some(kind), answer: Some(lifted), refusal: Some(refusal) }
     }
 }
 

@@ -23,13 +23,7 @@ struct Reader<'a> {
 const DEEPEST: usize = 8;
 
 pub fn read(words: &[u32], constants: usize, columns: usize) -> Result<Reading, usize> {
-    let mut reader = Reader {
-        words,
-        constants,
-        columns,
-        at: 0,
-        used: 0,
-    };
+    let mut reader = Reader { words, constants, columns, at: 0, used: 0 };
     let mut shared = 0;
     let mut rows = Vec::new();
     loop {

@@ -2,22 +2,10 @@
 //!
 //! files N [SEED]
 
-#[allow(dead_code)]
-#[path = "../oracle/answers.rs"]
-mod answers;
-#[allow(dead_code)]
-mod balance;
-#[allow(dead_code)]
-mod cases;
-#[allow(dead_code)]
-mod networks;
-#[allow(dead_code)]
-mod ours;
-mod random;
-mod reader;
-
-use ours::nl;
-use random::Random;
+use differential::random::{self, Random};
+use differential::{cases, reader};
+use fervoulk::boundary::nl;
+use oracle::Network;
 use std::collections::BTreeMap;
 
 #[derive(Clone, Default)]
@@ -27,18 +15,7 @@ struct File {
     columns: usize,
 }
 
-const VALUES: [f64; 10] = [
-    0.0,
-    -0.0,
-    1.0,
-    -1.0,
-    0.5,
-    5e-324,
-    f64::NAN,
-    f64::INFINITY,
-    f64::NEG_INFINITY,
-    1e308,
-];
+const VALUES: [f64; 10] = [0.0, -0.0, 1.0, -1.0, 0.5, 5e-324, f64::NAN, f64::INFINITY, f64::NEG_INFINITY, 1e308];
 
 /// Writes a file of its own accord, by the rules.
 struct Writer<'a> {
@@ -91,11 +68,7 @@ impl Writer<'_> {
             return self.word(2, part);
         }
         self.word(0, self.file.constants.len());
-        let value = if self.random.chance(500) {
-            self.random.one_of(&VALUES)
-        } else {
-            f64::from_bits(self.random.bits())
-        };
+        let value = if self.random.chance(500) { self.random.one_of(&VALUES) } else { f64::from_bits(self.random.bits()) };
         self.file.constants.push(value);
     }
 
@@ -133,18 +106,8 @@ impl Writer<'_> {
 
 fn written(random: &mut Random) -> File {
     let columns = random.one_of(&[0, 1, 2, 4, 9]);
-    let (parts, rows) = (
-        random.one_of(&[0, 1, 2, 5]),
-        random.one_of(&[0, 1, 2, 3, 6]),
-    );
-    let mut writer = Writer {
-        random,
-        file: File {
-            columns,
-            ..File::default()
-        },
-        shared: 0,
-    };
+    let (parts, rows) = (random.one_of(&[0, 1, 2, 5]), random.one_of(&[0, 1, 2, 3, 6]));
+    let mut writer = Writer { random, file: File { columns, ..File::default() }, shared: 0 };
     for part in 0..parts {
         writer.word(10, part);
         writer.part();
@@ -166,12 +129,10 @@ fn compiled(random: &mut Random) -> Option<File> {
     if case.words.len() > 40 {
         return None;
     }
-    match answers::network(&case.words, &case.numbers) {
-        answers::Network::Compiled(compiled) => Some(File {
-            columns: compiled.columns(),
-            words: compiled.file.words,
-            constants: compiled.file.constants,
-        }),
+    match oracle::network(&case.words, &case.numbers) {
+        Network::Compiled(compiled) => {
+            Some(File { columns: compiled.columns(), words: compiled.file.words, constants: compiled.file.constants })
+        }
         _ => None,
     }
 }
@@ -198,15 +159,7 @@ fn damage(random: &mut Random, file: &mut File) {
         12 => {
             file.constants.pop();
         }
-        _ => {
-            file.columns = random.one_of(&[
-                0,
-                1,
-                file.columns + 1,
-                file.columns.saturating_sub(1),
-                usize::MAX,
-            ])
-        }
+        _ => file.columns = random.one_of(&[0, 1, file.columns + 1, file.columns.saturating_sub(1), usize::MAX]),
     }
 }
 
@@ -217,11 +170,7 @@ fn any_words(random: &mut Random) -> File {
         1 => (random.below(14) as u32) << 28,
         _ => (random.below(14) as u32) << 28 | random.below(3) as u32,
     });
-    File {
-        words: words.collect(),
-        constants: vec![0.0; random.below(4)],
-        columns: random.below(4),
-    }
+    File { words: words.collect(), constants: vec![0.0; random.below(4)], columns: random.below(4) }
 }
 
 fn file(random: &mut Random) -> File {
@@ -317,14 +266,8 @@ fn main() {
         if expected != found || sameness.0 != sameness.1 {
             different += 1;
             if different <= 10 {
-                println!(
-                    "DIFFERENT: finder {found:?} and not {expected:?}, same {} and not {}",
-                    sameness.1, sameness.0
-                );
-                println!(
-                    "{constants} constants, {} columns, row {r}, words {:08x?}",
-                    file.columns, file.words
-                );
+                println!("DIFFERENT: finder {found:?} and not {expected:?}, same {} and not {}", sameness.1, sameness.0);
+                println!("{constants} constants, {} columns, row {r}, words {:08x?}", file.columns, file.words);
                 println!("constants {:x?} and {:x?}", file.constants, twin.constants);
             }
         }

@@ -1,8 +1,7 @@
 //! A network file (document 01) as prepared tables.
 
 use crate::standin::powerio_matrix::{
-    AcOpfPreparation, AnalysisBranchSource, Branches, Buses, Generators, PiecewiseLinearCost,
-    PreparedObjective,
+    AcOpfPreparation, AnalysisBranchSource, Branches, Buses, Generators, PiecewiseLinearCost, PreparedObjective,
 };
 use crate::standin::powerio_prob::AcOpfInstance;
 use crate::standin::Identity;
@@ -20,11 +19,7 @@ pub fn network(words: &[u32], numbers: &[f64]) -> Option<AcOpfInstance> {
         n_buses: 0,
         bus_ids: Vec::new(),
         reference_buses: Vec::new(),
-        objective: if header & 1 == 1 {
-            PreparedObjective::NetworkGeneratorCost
-        } else {
-            PreparedObjective::Other
-        },
+        objective: if header & 1 == 1 { PreparedObjective::NetworkGeneratorCost } else { PreparedObjective::Other },
         buses: Buses::default(),
         generators: Generators::default(),
         branches: Branches::default(),
@@ -79,10 +74,7 @@ pub fn network(words: &[u32], numbers: &[f64]) -> Option<AcOpfInstance> {
                 t.c0.push(c0);
                 t.pg.push(pg);
                 t.qg.push(qg);
-                let mut curve = PiecewiseLinearCost {
-                    power: Vec::new(),
-                    value: Vec::new(),
-                };
+                let mut curve = PiecewiseLinearCost { power: Vec::new(), value: Vec::new() };
                 for _ in 0..points {
                     let [power, value] = take(&mut numbers)?;
                     curve.power.push(power);
@@ -91,8 +83,7 @@ pub fn network(words: &[u32], numbers: &[f64]) -> Option<AcOpfInstance> {
                 t.piecewise_linear.push((points > 0).then_some(curve));
             }
             4 => {
-                let [g, b, g_fr, b_fr, g_to, b_to, tap, shift, low, high, s_max] =
-                    take(&mut numbers)?;
+                let [g, b, g_fr, b_fr, g_to, b_to, tap, shift, low, high, s_max] = take(&mut numbers)?;
                 if load >> 26 != 0 {
                     return None;
                 }

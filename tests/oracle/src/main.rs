@@ -4,19 +4,15 @@
 //! bits of each) and any number of `point SOLVER ...`, all numbers in hexadecimal.
 //! Lines of an earlier answer are passed over, so that a stored file can be run again.
 //!
-//! `refusal NUMBER PLACE` is document 01's (answers.rs).
+//! `refusal NUMBER PLACE` is document 01's (lib.rs).
 
-mod answers;
-
-use answers::Network;
+use oracle::Network;
 use std::fmt::Write as _;
 use std::io::{BufWriter, Read, Write};
 
 fn main() {
     let mut input = String::new();
-    std::io::stdin()
-        .read_to_string(&mut input)
-        .expect("standard input");
+    std::io::stdin().read_to_string(&mut input).expect("standard input");
     let mut out = BufWriter::new(std::io::stdout().lock());
     let mut case: Option<Case> = None;
     for line in input.lines() {
@@ -24,10 +20,7 @@ fn main() {
         match key {
             "case" => {
                 answer(case.take(), &mut out);
-                case = Some(Case {
-                    name: rest.to_owned(),
-                    ..Case::default()
-                });
+                case = Some(Case { name: rest.to_owned(), ..Case::default() });
             }
             "words" => {
                 let words = rest.split_whitespace();
@@ -52,9 +45,7 @@ struct Case {
 }
 
 fn numbers(text: &str) -> Vec<f64> {
-    text.split_whitespace()
-        .map(|bits| f64::from_bits(u64::from_str_radix(bits, 16).expect("64 bits")))
-        .collect()
+    text.split_whitespace().map(|bits| f64::from_bits(u64::from_str_radix(bits, 16).expect("64 bits"))).collect()
 }
 
 /// A case's numbers, as they were read.
@@ -86,7 +77,7 @@ fn answer(case: Option<Case>, out: &mut impl Write) {
     say(format!("case {}", case.name));
     say(words("words", &case.words));
     say(same("numbers", &case.numbers));
-    let compiled = match answers::network(&case.words, &case.numbers) {
+    let compiled = match oracle::network(&case.words, &case.numbers) {
         Network::Form => return say("form".to_owned()),
         Network::Error { message, refusal } => {
             say(format!("error {message}"));

@@ -1,14 +1,12 @@
 //! Random numbers under a seed (splitmix64).
 
 /// A program's words: how many cases, and the seed, 1998 where none is given.
-#[allow(dead_code)]
 pub fn count_and_seed(usage: &str) -> (u64, u64) {
     let mut words = std::env::args().skip(1);
     let count = words.next().and_then(|n| n.parse().ok()).expect(usage);
     (count, seed(words.next()))
 }
 
-#[allow(dead_code)]
 pub fn seed(word: Option<String>) -> u64 {
     word.map_or(1998, |seed| seed.parse().expect("a seed"))
 }

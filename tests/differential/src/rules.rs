@@ -39,9 +39,7 @@ pub fn first_six(words: &[u32], numbers: &[f64]) -> Option<(u32, usize)> {
         at += numbers_of(word);
     }
     let numbered = [(4, blank), (5, curve), (6, shift)];
-    numbered
-        .into_iter()
-        .find_map(|(number, place)| Some((number, place?)))
+    numbered.into_iter().find_map(|(number, place)| Some((number, place?)))
 }
 
 fn points(word: u32) -> usize {
@@ -72,11 +70,7 @@ fn wrong_word(words: &[u32]) -> Option<usize> {
             5 => 0x0000_0fff,
             _ => return Some(i),
         };
-        let in_order = if i == 0 {
-            kind == 1
-        } else {
-            kind > 1 && kind >= words[i - 1] >> 28
-        };
+        let in_order = if i == 0 { kind == 1 } else { kind > 1 && kind >= words[i - 1] >> 28 };
         let low = word & 0xfff;
         let buses_right = match kind {
             3 | 5 => low < buses,

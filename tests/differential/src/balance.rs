@@ -1,11 +1,11 @@
 //! Makes a point balance: the demands become what the flows leave over.
 
-use crate::answers::{self, Network};
 use crate::networks::Net;
+use oracle::Network;
 
-/// The own objective at the point; nothing where the network is refused by the text or the point has a wrong form.
+/// The check's own objective at the point; nothing where the network is refused by the text or the point has a wrong form.
 pub fn balance(net: &mut Net, x: &[f64]) -> Option<f64> {
-    let Network::Compiled(compiled) = answers::network(&net.words(), &net.numbers()) else {
+    let Network::Compiled(compiled) = oracle::network(&net.words(), &net.numbers()) else {
         return None;
     };
     let answer = compiled.outcome(x, 0.0)?;
