@@ -282,7 +282,7 @@ fn curves_on(
     later_factor(words, numbers, n, k, priced, count)
 }
 
-// Of a network that 1 to 10 do not refuse.
+// Finds refusal 11 of a network that 1 to 10 do not refuse.
 pub fn factor_fault(words: &[u32], numbers: &[f64]) -> Fault
     requires { ⌜ faultTables (now words) (now numbers) .number ≡ 0 ⌝ }
     ensures { λ r. ⌜ r ≡ faultFactor (now (words .entry)) (now (numbers .entry)) ⌝ }
