@@ -44,7 +44,7 @@ fn square_part(vm: usize, file: &mut [u32], constants: &mut [f64], pen: Pen) -> 
     )
 }
 
-// Of n buses; their vm columns follow the va columns.
+// Writes the squares of n buses' voltages; the vm columns follow the va columns.
 fn vm_squared(n: usize, file: &mut [u32], constants: &mut [f64], pen: Pen) -> Pen
     requires { ⌜ (n ≤ 256)
         × Room (now file) (now constants) pen (each n (λ i. partTokens 10 (square (column (n + i)) ∷ []))) ⌝ }
@@ -222,7 +222,7 @@ fn branch_parts(
     flow_parts(first, to, at_to, file, constants, flows)
 }
 
-// Of branch b, whose numbers start at `at`.
+// Writes the eight parts of branch b, whose numbers start at `at`.
 fn branch_flow(
     words: &[u32],
     numbers: &[f64],
