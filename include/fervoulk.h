@@ -1,10 +1,10 @@
 /*
  * Fervoulk's C boundary: compile, check and the finder, for a host in C, C++ or Rust.
  *
- * The functions stand in three archives, target/staticlib/libnl.a, libvalidate.a and libcompile.a (`rt staticlib NAME`), for x86-64 Linux.
- * Link any of them, in any order; they need memcpy and memset of the C library and nothing else. "Document 01" below is the paper that
- * defines the files, the refusals and the check; the contracts are proved for the functions named here, as they stand in
- * crates/NAME/src.
+ * The functions stand in the archives that include/archives.txt lists, target/staticlib/libNAME.a for a NAME of the list (`rt staticlib
+ * NAME`), for x86-64 Linux; each section below names its own. Link any of them, in any order; they need memcpy and memset of the C library
+ * and nothing else. docs/FORMAT.md says what the files, the refusals and the check are, and works an example; "document 01" is the paper
+ * behind it. The contracts are proved for the functions named here, as they stand in crates/NAME/src.
  *
  * What the caller owes. Nothing proves a caller in C:
  *  - A list is a pointer and the number of its elements. The pointer is aligned for its type (4 bytes for words, 8 for doubles) and
@@ -35,7 +35,7 @@ typedef char fervoulk_size_t_has_64_bits[sizeof(size_t) == 8 ? 1 : -1];
 /* ---- Refusals: a number and a place in one answer */
 
 /*
- * The numbers of document 01's table, each named by its word. What the place is stands beside it. Compile uses 1 to 12, the check 1 to
+ * The refusals' numbers, each named by its word. What the place is stands beside it. Compile uses 1 to 12, the check 1 to
  * 16, the finder 17 and 18; the first fault decides, by number, but 8, 9 and 10 branch by branch.
  */
 enum fervoulk_refusal {
@@ -47,20 +47,20 @@ enum fervoulk_refusal {
     FERVOULK_CURVE = 5,     /* curve's power not above the one before: its index */
     FERVOULK_SHIFT = 6,     /* shift outside -1,024 to 1,024: its index */
     FERVOULK_BOUNDS = 7,    /* active bound not finite, or lower above upper: the column */
-    FERVOULK_SPREAD = 8,    /* the same for active angle bounds: the branch */
+    FERVOULK_SPREAD = 8,    /* active angle bound not finite, or lower above upper: the branch */
     FERVOULK_RATING = 9,    /* active s_max not finite or below 0: the branch */
     FERVOULK_SQUARE = 10,   /* active s_max squared not finite: the branch */
     FERVOULK_FACTOR = 11,   /* constant, objective constant or start not finite: its index in these, one after the other */
     FERVOULK_SHORT = 12,    /* a written list too short: its number, from 1 */
     FERVOULK_POINT = 13,    /* point of a wrong length: the number of columns; else its first column that is not finite */
     FERVOULK_SWING = 14,    /* voltage angle outside -1,024 to 1,024: the column */
-    FERVOULK_DERIVED = 15,  /* output not finite: its index; 2n + 4m for the solver's objective, 2n + 4m + 1 for the own */
+    FERVOULK_DERIVED = 15,  /* output not finite: its index; 2n + 4m for the solver's objective, 2n + 4m + 1 for the check's own */
     FERVOULK_RESIDUAL = 16, /* a residual above its tolerance: the first, from 1 */
     FERVOULK_MODEL = 17,    /* model words wrong: the first wrong word, the length where they run out, the end word with constants left */
     FERVOULK_ROW = 18       /* no such row: the number of rows */
 };
 
-/* From an answer of compile_model, validate_check or nl_find_row: the number, 0 where nothing is refused. */
+/* From an answer of fervoulk_compile, fervoulk_check, fervoulk_residuals or fervoulk_find_row: the number, 0 where nothing is refused. */
 static inline uint32_t fervoulk_number(uint64_t answer) {
     return (uint32_t)(answer >> 32);
 }
@@ -72,7 +72,7 @@ static inline uint32_t fervoulk_place(uint64_t answer) {
 
 #define FERVOULK_PLACE_MAX UINT32_MAX
 
-/* Document 01's word for a refusal's number; an empty string for any number that it does not have, 0 among them. */
+/* The word for a refusal's number; an empty string for a number that is no refusal's, 0 among them. */
 static inline const char *fervoulk_word(uint32_t number) {
     static const char *const words[] = {
         "", "words", "size", "count", "blank", "curve", "shift", "bounds", "spread", "rating",
@@ -83,20 +83,20 @@ static inline const char *fervoulk_word(uint32_t number) {
 /* ---- Compile: from the network file to the model file (libcompile.a) */
 
 /*
- * Compiles the network of `words` and `numbers` (document 01, "The network file"). Answers number and place, number 1 to 12 or 0.
+ * Compiles the network of `words` and `numbers` (docs/FORMAT.md, "The network file"). Answers number and place, number 1 to 12 or 0.
  *
  * Where the number is 0, the front parts of the seven written lists hold:
- *   model_words     compile_words      the model file's words
- *   constants       compile_constants  its constants, in order of their running numbers
- *   column_lower    compile_columns    each column's lower bound: va, vm, pg, qg, then one cost column per curve under header 1
- *   column_upper    compile_columns    upper bounds
- *   start           compile_columns    starts
- *   row_lower       compile_rows       each row's lower bound
- *   row_upper       compile_rows       upper bounds
+ *   model_words     fervoulk_words      the model file's words
+ *   constants       fervoulk_constants  its constants, in order of their running numbers
+ *   column_lower    fervoulk_columns    each column's lower bound: va, vm, pg, qg, then one cost column per curve under header 1
+ *   column_upper    fervoulk_columns    upper bounds
+ *   start           fervoulk_columns    starts
+ *   row_lower       fervoulk_rows       each row's lower bound
+ *   row_upper       fervoulk_rows       upper bounds
  * (the second column names the function that answers how many elements), and what lies behind them is as it was. Where the number is not
  * 0, all seven lists are as they were. `words` and `numbers` are never written.
  */
-uint64_t compile_model(
+uint64_t fervoulk_compile(
     const uint32_t *words, size_t words_length,
     const double *numbers, size_t numbers_length,
     uint32_t *model_words, size_t model_words_length,
@@ -109,38 +109,44 @@ uint64_t compile_model(
 
 /*
  * The other numbers of compile's answer, for lists that are just long enough: a host sizes its lists by them before it lends them. Each
- * is 0 where the network is refused (1 to 11); compile_words is 0 only there. They write nothing.
+ * is 0 where the network is refused (1 to 11); fervoulk_words is 0 only there. They write nothing.
  */
 
 /* How many words the model file has. */
-size_t compile_words(const uint32_t *words, size_t words_length, const double *numbers, size_t numbers_length);
+size_t fervoulk_words(const uint32_t *words, size_t words_length, const double *numbers, size_t numbers_length);
 
 /* How many constants it has. */
-size_t compile_constants(const uint32_t *words, size_t words_length, const double *numbers, size_t numbers_length);
+size_t fervoulk_constants(const uint32_t *words, size_t words_length, const double *numbers, size_t numbers_length);
 
 /* How many columns the model has. */
-size_t compile_columns(const uint32_t *words, size_t words_length, const double *numbers, size_t numbers_length);
+size_t fervoulk_columns(const uint32_t *words, size_t words_length, const double *numbers, size_t numbers_length);
 
 /* How many rows. */
-size_t compile_rows(const uint32_t *words, size_t words_length, const double *numbers, size_t numbers_length);
+size_t fervoulk_rows(const uint32_t *words, size_t words_length, const double *numbers, size_t numbers_length);
 
 /* How many shared parts: one for each bus and eight for each branch. */
-size_t compile_shared(const uint32_t *words, size_t words_length, const double *numbers, size_t numbers_length);
+size_t fervoulk_shared(const uint32_t *words, size_t words_length, const double *numbers, size_t numbers_length);
 
 /* The objective constant, +0 where the network is refused. */
-double compile_objective(const uint32_t *words, size_t words_length, const double *numbers, size_t numbers_length);
+double fervoulk_objective_constant(const uint32_t *words, size_t words_length, const double *numbers, size_t numbers_length);
 
 /* ---- Check: whether a solver's point is accepted (libvalidate.a) */
+
+/*
+ * How many outputs the check has for this network: 2n + 4m, with n buses and m branches. It is 0 where the network is refused (1 to 11),
+ * and only there. It writes nothing. A list of this length is never refusal 12.
+ */
+size_t fervoulk_outputs(const uint32_t *words, size_t words_length, const double *numbers, size_t numbers_length);
 
 /*
  * Checks `point`, a value for each column, of the network of `words` and `numbers`, with the solver's own objective `solver`. Answers
  * number and place, number 1 to 16 or 0; 0 alone means that the point is accepted.
  *
- * Where the number is 0, `outputs` holds in front, with n buses and m branches, 2n + 4m numbers: all p injections, all q injections, all
- * p_from, all q_from, all p_to, all q_to; the rest is as it was. Where it is not 0, all of `outputs` is as it was. A list shorter than
- * 2n + 4m is refusal 12, place 1. The other three lists are never written.
+ * Where the number is 0, `outputs` holds in front the fervoulk_outputs numbers: all p injections, all q injections, all p_from, all
+ * q_from, all p_to, all q_to; the rest is as it was. Where it is not 0, all of `outputs` is as it was. A list shorter than
+ * fervoulk_outputs is refusal 12, place 1. The other three lists are never written.
  */
-uint64_t validate_check(
+uint64_t fervoulk_check(
     const uint32_t *words, size_t words_length,
     const double *numbers, size_t numbers_length,
     const double *point, size_t point_length,
@@ -149,9 +155,9 @@ uint64_t validate_check(
 
 /*
  * The same check once more, on the same lists: answers the objective worked out from the point, +0 where the point is refused. Leaves
- * `outputs` as validate_check does.
+ * `outputs` as fervoulk_check does.
  */
-double validate_objective(
+double fervoulk_objective(
     const uint32_t *words, size_t words_length,
     const double *numbers, size_t numbers_length,
     const double *point, size_t point_length,
@@ -161,9 +167,9 @@ double validate_objective(
 /*
  * The same check once more: answers residual `i`, from 0: active balance, reactive balance, variable bounds, reference angles, angle
  * limits, thermal limits, epigraph, objective difference over max(1, absolute objective). There are residuals where the point is accepted
- * and where it is refused with 16; else, and for an `i` above 7, the answer is +0. Leaves `outputs` as validate_check does.
+ * and where it is refused with 16; else, and for an `i` above 7, the answer is +0. Leaves `outputs` as fervoulk_check does.
  */
-double validate_residual(
+double fervoulk_residual(
     const uint32_t *words, size_t words_length,
     const double *numbers, size_t numbers_length,
     const double *point, size_t point_length,
@@ -171,25 +177,38 @@ double validate_residual(
     double *outputs, size_t outputs_length,
     size_t i);
 
+/*
+ * All eight residuals, in that order, and then the objective, by one run: in front of `report`, a list of nine or more, whether a residual
+ * is above its tolerance or not. Answers number and place as fervoulk_check does for 1 to 15, but 12, place 1, is for `report`; never 16.
+ * Where the number is 0, the list holds the nine numbers in front and the rest is as it was; where it is not 0, all of it is as it was.
+ * The point is accepted only where fervoulk_check answers 0.
+ */
+uint64_t fervoulk_residuals(
+    const uint32_t *words, size_t words_length,
+    const double *numbers, size_t numbers_length,
+    const double *point, size_t point_length,
+    double solver,
+    double *report, size_t report_length);
+
 /* ---- Finder: one row of a model file (libnl.a). Nothing is written */
 
 /*
  * Reads the whole model file of `words`, so many `constants` and so many `columns`, whoever wrote it, and looks for row `r`, from 0.
  * Answers number and place: 17 where the file does not pass reading, else 18 where it has no row `r`, else 0.
  */
-uint64_t nl_find_row(const uint32_t *words, size_t words_length, size_t constants, size_t columns, size_t r);
+uint64_t fervoulk_find_row(const uint32_t *words, size_t words_length, size_t constants, size_t columns, size_t r);
 
-/* Where the words of row `r`'s expression start in `words`, behind the row's beginning word; 0 where nl_find_row refuses. */
-size_t nl_row_start(const uint32_t *words, size_t words_length, size_t constants, size_t columns, size_t r);
+/* Where the words of row `r`'s expression start in `words`, behind the row's beginning word; 0 where fervoulk_find_row refuses. */
+size_t fervoulk_row_start(const uint32_t *words, size_t words_length, size_t constants, size_t columns, size_t r);
 
-/* How many words it has; 0 exactly where nl_find_row refuses. */
-size_t nl_row_length(const uint32_t *words, size_t words_length, size_t constants, size_t columns, size_t r);
+/* How many words it has; 0 exactly where fervoulk_find_row refuses. */
+size_t fervoulk_row_length(const uint32_t *words, size_t words_length, size_t constants, size_t columns, size_t r);
 
 /*
  * 1 where two models have equal words, and constants equal as numbers (-0 is 0, and a NaN is equal to nothing), else 0. It reads no
  * file: any words and constants have an answer.
  */
-uint32_t nl_same(
+uint32_t fervoulk_same(
     const uint32_t *words_a, size_t words_a_length,
     const double *constants_a, size_t constants_a_length,
     const uint32_t *words_b, size_t words_b_length,

@@ -245,15 +245,15 @@ int main(int count, char **arguments) {
     read_list(numbers, sizeof *numbers, nx);
     if (getchar() != EOF) return wrong("no network file", "more than its counts need");
 
-    size_t length = compile_words(words, nw, numbers, nx), constants = compile_constants(words, nw, numbers, nx);
-    struct model m = {.columns = compile_columns(words, nw, numbers, nx), .rows = compile_rows(words, nw, numbers, nx)};
-    m.shared = compile_shared(words, nw, numbers, nx);
-    m.constant = compile_objective(words, nw, numbers, nx);
+    size_t length = fervoulk_words(words, nw, numbers, nx), constants = fervoulk_constants(words, nw, numbers, nx);
+    struct model m = {.columns = fervoulk_columns(words, nw, numbers, nx), .rows = fervoulk_rows(words, nw, numbers, nx)};
+    m.shared = fervoulk_shared(words, nw, numbers, nx);
+    m.constant = fervoulk_objective_constant(words, nw, numbers, nx);
     m.words = list(length, sizeof *m.words);
     m.constants = list(constants, sizeof *m.constants);
     double *lower = list(m.columns, sizeof *lower), *upper = list(m.columns, sizeof *upper), *x = list(m.columns, sizeof *x);
     double *row_lower = list(m.rows, sizeof *row_lower), *row_upper = list(m.rows, sizeof *row_upper);
-    uint64_t answer = compile_model(words, nw, numbers, nx, m.words, length, m.constants, constants, lower, m.columns, upper, m.columns,
+    uint64_t answer = fervoulk_compile(words, nw, numbers, nx, m.words, length, m.constants, constants, lower, m.columns, upper, m.columns,
                                     x, m.columns, row_lower, m.rows, row_upper, m.rows);
     if (answer != 0) return refused("compile", answer);
     prepare(&m, length);
@@ -273,13 +273,13 @@ int main(int count, char **arguments) {
     FreeIpoptProblem(problem);
     printf("Ipopt's status: %d\nobjective: %.17g\n", status, solver);
 
-    size_t outputs_length = 2 * 256 + 4 * 512; /* document 01's limits */
+    size_t outputs_length = fervoulk_outputs(words, nw, numbers, nx);
     double *outputs = list(outputs_length, sizeof *outputs);
-    answer = validate_check(words, nw, numbers, nx, x, m.columns, solver, outputs, outputs_length);
-    if (answer == 0 || fervoulk_number(answer) == FERVOULK_RESIDUAL) {
+    answer = fervoulk_check(words, nw, numbers, nx, x, m.columns, solver, outputs, outputs_length);
+    double report[9];
+    if (fervoulk_residuals(words, nw, numbers, nx, x, m.columns, solver, report, 9) == 0) {
         printf("residuals:");
-        for (size_t i = 0; i < 8; i++)
-            printf(" %.2g", validate_residual(words, nw, numbers, nx, x, m.columns, solver, outputs, outputs_length, i));
+        for (size_t i = 0; i < 8; i++) printf(" %.2g", report[i]);
         printf("\n");
     }
     if (answer != 0) return refused("the check", answer);

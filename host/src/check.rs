@@ -1,9 +1,20 @@
 //! The check: whether a solver's point is accepted.
 
+use std::fmt;
+
 use crate::boundary::validate as boundary;
 use crate::{Kind, Refusal};
 
 /// What the check works out at a point, injections by bus and flows by branch.
+///
+/// ```
+/// # use fervoulk::check;
+/// # let words = [0x10000001, 0x20000001, 0x30001000, 0x50000000];
+/// # let numbers = [1.0, 0.25, 0.0, 0.0, 0.9, 1.1, 0.0, 1.0, 0.0, 2.0, -1.0, 1.0, 2.0, 3.0, 4.0, 1.0, 0.25];
+/// let accepted = check(&words, &numbers, &[0.0, 1.0, 1.0, 0.25], 8.0).expect("Depot M's start is accepted");
+/// assert_eq!(accepted.outputs.p_injection, [0.0]);
+/// assert!(accepted.outputs.p_from.is_empty(), "Depot M has no branch");
+/// ```
 #[derive(Clone, Debug, PartialEq)]
 pub struct Outputs {
     pub p_injection: Vec<f64>,
@@ -15,6 +26,14 @@ pub struct Outputs {
 }
 
 /// The eight residuals. Refusal 16's place counts them from 1 in this order.
+///
+/// ```
+/// # use fervoulk::check;
+/// # let words = [0x10000001, 0x20000001, 0x30001000, 0x50000000];
+/// # let numbers = [1.0, 0.25, 0.0, 0.0, 0.9, 1.1, 0.0, 1.0, 0.0, 2.0, -1.0, 1.0, 2.0, 3.0, 4.0, 1.0, 0.25];
+/// let refused = check(&words, &numbers, &[0.0, 1.0, 1.5, 0.25], 10.75).expect_err("half a unit too much is generated");
+/// assert_eq!(refused.residuals.expect("refusal 16").active_balance, 0.5);
+/// ```
 #[derive(Clone, Copy, Debug, PartialEq)]
 pub struct Residuals {
     pub active_balance: f64,
@@ -24,69 +43,119 @@ pub struct Residuals {
     pub angle_limits: f64,
     pub thermal_limits: f64,
     pub piecewise_epigraph: f64,
-    /// the objective difference over max(1, absolute objective)
+    /// The difference of the two objectives over max(1, absolute objective).
     pub objective: f64,
 }
 
-/// The check's answer.
+/// What the check gives for an accepted point.
+///
+/// ```
+/// # use fervoulk::check;
+/// # let words = [0x10000001, 0x20000001, 0x30001000, 0x50000000];
+/// # let numbers = [1.0, 0.25, 0.0, 0.0, 0.9, 1.1, 0.0, 1.0, 0.0, 2.0, -1.0, 1.0, 2.0, 3.0, 4.0, 1.0, 0.25];
+/// let accepted = check(&words, &numbers, &[0.0, 1.0, 1.0, 0.25], 8.0).expect("Depot M's start is accepted");
+/// assert_eq!(accepted.objective, 8.0);
+/// assert_eq!(accepted.residuals.objective, 0.0);
+/// ```
 #[derive(Clone, Debug, PartialEq)]
-pub enum Check {
-    Accepted {
-        outputs: Outputs,
-        objective: f64,
-        residuals: Residuals,
-    },
-    /// Refused with 1 to 16, 12 never among them. There are residuals with 16 alone.
-    Refused {
-        refusal: Refusal,
-        residuals: Option<Residuals>,
-    },
+pub struct Accepted {
+    pub outputs: Outputs,
+    /// The check's own objective, worked out from the point.
+    pub objective: f64,
+    pub residuals: Residuals,
 }
 
-// Document 01's limits. A network with more is refused before the output list is looked at.
-const BUSES: usize = 256;
-const BRANCHES: usize = 512;
-
-// how many words have that kind, counted up to a limit
-fn kinds(words: &[u32], kind: u32, limit: usize) -> usize {
-    words.iter().filter(|&&word| word >> 28 == kind).take(limit).count()
+/// Why a point is not accepted. It is shown as its refusal.
+///
+/// ```
+/// # use fervoulk::{check, Kind, Refusal};
+/// # let words = [0x10000001, 0x20000001, 0x30001000, 0x50000000];
+/// # let numbers = [1.0, 0.25, 0.0, 0.0, 0.9, 1.1, 0.0, 1.0, 0.0, 2.0, -1.0, 1.0, 2.0, 3.0, 4.0, 1.0, 0.25];
+/// let refused = check(&words, &numbers, &[0.0, 1.0, 1.0], 8.0).expect_err("a number is missing");
+/// assert_eq!(refused.refusal, Refusal::new(Kind::Point, 4));
+/// assert_eq!(refused.residuals, None);
+/// ```
+#[derive(Clone, Copy, Debug, PartialEq)]
+pub struct Refused {
+    /// One of 1 to 16, 12 never among them.
+    pub refusal: Refusal,
+    /// There are residuals with refusal 16 alone.
+    pub residuals: Option<Residuals>,
 }
 
-/// Checks a point, a value for each column, and the solver's own objective for it.
-pub fn check(words: &[u32], numbers: &[f64], point: &[f64], solver_objective: f64) -> Check {
-    let n = kinds(words, 2, BUSES);
-    let m = kinds(words, 4, BRANCHES);
-    let mut outputs = vec![0.0; 2 * n + 4 * m];
-    let answer = boundary::validate_check(words, numbers, point, solver_objective, &mut outputs);
-    let Some(refusal) = Refusal::of(answer) else {
-        let objective = boundary::validate_objective(words, numbers, point, solver_objective, &mut outputs);
-        let residuals = residuals(words, numbers, point, solver_objective, &mut outputs);
-        return Check::Accepted { outputs: taken_apart(&outputs, n, m), objective, residuals };
-    };
-    let residuals = match refusal.kind {
-        Kind::Residual => Some(residuals(words, numbers, point, solver_objective, &mut outputs)),
-        _ => None,
-    };
-    Check::Refused { refusal, residuals }
-}
-
-// Each number of the answer is a call of its own.
-fn residuals(words: &[u32], numbers: &[f64], point: &[f64], solver_objective: f64, outputs: &mut [f64]) -> Residuals {
-    let mut residual = |i| boundary::validate_residual(words, numbers, point, solver_objective, outputs, i);
-    Residuals {
-        active_balance: residual(0),
-        reactive_balance: residual(1),
-        variable_bounds: residual(2),
-        reference_angles: residual(3),
-        angle_limits: residual(4),
-        thermal_limits: residual(5),
-        piecewise_epigraph: residual(6),
-        objective: residual(7),
+impl fmt::Display for Refused {
+    fn fmt(&self, f: &mut fmt::Formatter<'_>) -> fmt::Result {
+        self.refusal.fmt(f)
     }
 }
 
-// the six lists that stand one after the other for n buses and m branches
-fn taken_apart(outputs: &[f64], n: usize, m: usize) -> Outputs {
+impl std::error::Error for Refused {}
+
+/// Checks a point, a value for each column, and the solver's objective for it. Only `Ok` means that the point may be used.
+///
+/// The check runs twice: once for the verdict and the outputs, once for the residuals and the objective.
+///
+/// ```
+/// use fervoulk::check;
+/// // Depot M
+/// let words = [0x10000001, 0x20000001, 0x30001000, 0x50000000];
+/// let numbers = [1.0, 0.25, 0.0, 0.0, 0.9, 1.1, 0.0, 1.0, 0.0, 2.0, -1.0, 1.0, 2.0, 3.0, 4.0, 1.0, 0.25];
+/// // its columns: va, vm, pg, qg
+/// let point = [0.0, 1.0, 1.0, 0.25];
+/// match check(&words, &numbers, &point, 8.0) {
+///     Ok(accepted) => assert_eq!(accepted.objective, 8.0),
+///     Err(refused) => panic!("refused: {refused}"),
+/// }
+/// assert_eq!(check(&words, &numbers, &point, f64::INFINITY).unwrap_err().to_string(), "15 derived 2");
+/// ```
+#[must_use = "only an accepted point may be used"]
+pub fn check(words: &[u32], numbers: &[f64], point: &[f64], solver_objective: f64) -> Result<Accepted, Refused> {
+    let mut outputs = vec![0.0; boundary::fervoulk_outputs(words, numbers)];
+    match Refusal::of(boundary::fervoulk_check(words, numbers, point, solver_objective, &mut outputs)) {
+        None => {
+            // The check has refused nothing, and so nothing is refused here.
+            let (residuals, objective) = measured(words, numbers, point, solver_objective)?;
+            Ok(Accepted { outputs: taken_apart(&outputs, buses(words)), objective, residuals })
+        }
+        Some(refusal) => {
+            let residuals = match refusal.kind() {
+                Some(Kind::Residual) => measured(words, numbers, point, solver_objective).ok().map(|(residuals, _)| residuals),
+                _ => None,
+            };
+            Err(Refused { refusal, residuals })
+        }
+    }
+}
+
+// the residuals and the objective of a point that 1 to 15 do not refuse
+fn measured(words: &[u32], numbers: &[f64], point: &[f64], solver_objective: f64) -> Result<(Residuals, f64), Refused> {
+    let mut report = [0.0; 9];
+    if let Some(refusal) = Refusal::of(boundary::fervoulk_residuals(words, numbers, point, solver_objective, &mut report)) {
+        return Err(Refused { refusal, residuals: None });
+    }
+    let [active_balance, reactive_balance, variable_bounds, reference_angles, angle_limits, thermal_limits, epigraph, difference, own] =
+        report;
+    let residuals = Residuals {
+        active_balance,
+        reactive_balance,
+        variable_bounds,
+        reference_angles,
+        angle_limits,
+        thermal_limits,
+        piecewise_epigraph: epigraph,
+        objective: difference,
+    };
+    Ok((residuals, own))
+}
+
+// how many bus words there are
+fn buses(words: &[u32]) -> usize {
+    words.iter().filter(|&&word| word >> 28 == 2).count()
+}
+
+// the six lists that stand one after the other: two for n buses, four for the branches
+fn taken_apart(outputs: &[f64], n: usize) -> Outputs {
+    let m = (outputs.len() - 2 * n) / 4;
     let part = |start: usize, length: usize| outputs[start..start + length].to_vec();
     Outputs {
         p_injection: part(0, n),
@@ -105,7 +174,7 @@ mod tests {
     #[test]
     fn six_lists_one_after_the_other() {
         let numbers: Vec<f64> = (0..10).map(f64::from).collect();
-        let outputs = taken_apart(&numbers, 1, 2);
+        let outputs = taken_apart(&numbers, 1);
         assert_eq!(outputs.p_injection, [0.0]);
         assert_eq!(outputs.q_injection, [1.0]);
         assert_eq!(outputs.p_from, [2.0, 3.0]);

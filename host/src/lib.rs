@@ -1,18 +1,31 @@
 //! The solver host's side of Fervoulk: compile, check and the finder as safe functions over the C boundary (include/fervoulk.h).
 //!
-//! "Document 01" is the paper that defines the network file, the model file, the refusals and the check. The proofs are of the functions
-//! behind the boundary; this crate only sizes lists, lends them, and takes answers apart.
+//! docs/FORMAT.md says what the network file, the model file, the refusals and the check are. The proofs are of the functions behind the
+//! boundary; this crate only sizes lists, lends them, and takes answers apart.
+//!
+//! ```
+//! use fervoulk::{check, compile};
+//! // Depot M: one bus, one generator, one reference (examples/depot_m.txt)
+//! let words = [0x10000001, 0x20000001, 0x30001000, 0x50000000];
+//! let numbers = [1.0, 0.25, 0.0, 0.0, 0.9, 1.1, 0.0, 1.0, 0.0, 2.0, -1.0, 1.0, 2.0, 3.0, 4.0, 1.0, 0.25];
+//! let model = compile(&words, &numbers)?;
+//! // a solver would start here; the start is a solution already, of objective 8
+//! let accepted = check(&words, &numbers, &model.start, 8.0)?;
+//! assert_eq!(accepted.objective, 8.0);
+//! # Ok::<(), Box<dyn std::error::Error>>(())
+//! ```
 
 #![deny(unsafe_code)]
 
 #[allow(unsafe_code)]
-mod boundary;
+#[doc(hidden)]
+pub mod boundary;
 mod check;
 mod model;
 mod refusal;
 mod row;
 
-pub use check::{check, Check, Outputs, Residuals};
+pub use check::{check, Accepted, Outputs, Refused, Residuals};
 pub use model::{compile, Model};
 pub use refusal::{Kind, Refusal};
 pub use row::{find_row, same};

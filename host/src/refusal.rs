@@ -1,52 +1,65 @@
-//! Document 01's refusals: a number with its word, and a place.
+//! Refusals: a number with its word, and a place.
 
 use std::fmt;
 
-/// What is refused, by document 01's word; with each, what the place is. The number is `kind as u32`, 1 to 18.
+/// What is refused, by its word; with each, what the place is. The number is `kind.number()`. Later versions may have more kinds.
+///
+/// ```
+/// use fervoulk::Kind;
+/// assert_eq!(Kind::Bounds.number(), 7);
+/// assert_eq!(Kind::Bounds.word(), "bounds");
+/// ```
 #[derive(Clone, Copy, Debug, PartialEq, Eq, Hash)]
 #[repr(u32)]
+#[non_exhaustive]
 pub enum Kind {
-    /// network word of a wrong form, or a bus number too high: the first such word, 0 for an empty list
+    /// A network word has a wrong form, or a bus number is too high: the first such word, 0 for an empty list.
     Words = 1,
-    /// a limit passed: the word that passes it, 0 where there is no bus
+    /// A limit is passed: the word that passes it, 0 where there is no bus.
     Size,
-    /// number list not of the needed length: that length
+    /// The number list does not have the needed length: that length.
     Count,
-    /// required number not finite: its index
+    /// A required number is not finite: its index.
     Blank,
-    /// curve's power not above the one before: its index
+    /// A curve's power is not above the one before: its index.
     Curve,
-    /// shift outside -1,024 to 1,024: its index
+    /// A shift is outside -1,024 to 1,024: its index.
     Shift,
-    /// active bound not finite, or lower above upper: the column
+    /// An active bound is not finite, or lower is above upper: the column.
     Bounds,
-    /// the same for active angle bounds: the branch
+    /// An active angle bound is not finite, or lower is above upper: the branch.
     Spread,
-    /// active s_max not finite or below 0: the branch
+    /// An active s_max is not finite or below 0: the branch.
     Rating,
-    /// active s_max squared not finite: the branch
+    /// The square of an active s_max is not finite: the branch.
     Square,
-    /// constant, objective constant or start not finite: its index in these, one after the other
+    /// A constant, the objective constant or a start is not finite: its index in these, one after the other.
     Factor,
-    /// a written list too short: its number, from 1. The functions of this crate size their lists, so that they never give it
+    /// A written list is too short: its number, from 1. The functions of this crate size their lists, so that they never give it.
     Short,
-    /// point of a wrong length: the number of columns; else its first column that is not finite
+    /// The point has a wrong length: the number of columns. Else a number of it is not finite: the first such column.
     Point,
-    /// voltage angle outside -1,024 to 1,024: the column
+    /// A voltage angle is outside -1,024 to 1,024: the column.
     Swing,
-    /// output not finite: its index; 2n + 4m for the solver's objective, 2n + 4m + 1 for the own
+    /// An output is not finite: its index. With n buses and m branches, 2n + 4m stands for the solver's objective and 2n + 4m + 1 for the
+    /// check's own.
     Derived,
-    /// a residual above its tolerance: the first, from 1
+    /// A residual is above its tolerance: the first, from 1.
     Residual,
-    /// model words wrong: the first wrong word, the length where they run out, the end word where constants are left over
+    /// The model's words are wrong: the first wrong word, the length where they run out, the end word where constants are left over.
     Model,
-    /// no such row: the number of rows
+    /// There is no such row: the number of rows.
     Row,
 }
 
 impl Kind {
-    /// In order of their numbers, from 1.
-    pub const ALL: [Kind; 18] = [
+    /// All kinds, in order of their numbers, from 1.
+    ///
+    /// ```
+    /// use fervoulk::Kind;
+    /// assert_eq!(Kind::ALL[6], Kind::Bounds);
+    /// ```
+    pub const ALL: &'static [Kind] = &[
         Kind::Words,
         Kind::Size,
         Kind::Count,
@@ -67,10 +80,31 @@ impl Kind {
         Kind::Row,
     ];
 
+    /// The kind that has this number, where there is one.
+    ///
+    /// ```
+    /// use fervoulk::Kind;
+    /// assert_eq!(Kind::of(16), Some(Kind::Residual));
+    /// assert_eq!(Kind::of(0), None);
+    /// ```
+    pub fn of(number: u32) -> Option<Kind> {
+        Kind::ALL.iter().copied().find(|kind| kind.number() == number)
+    }
+
+    /// The number that a controller shows.
+    ///
+    /// ```
+    /// assert_eq!(fervoulk::Kind::Row.number(), 18);
+    /// ```
     pub fn number(self) -> u32 {
         self as u32
     }
 
+    /// The word that stands beside the number.
+    ///
+    /// ```
+    /// assert_eq!(fervoulk::Kind::Swing.word(), "swing");
+    /// ```
     pub fn word(self) -> &'static str {
         match self {
             Kind::Words => "words",
@@ -95,37 +129,84 @@ impl Kind {
     }
 }
 
-/// A refusal. It is shown as number, word and place.
+/// A refusal: a number and a place. It is shown as number, word and place.
+///
+/// ```
+/// use fervoulk::{compile, Kind, Refusal};
+/// let refusal = compile(&[], &[]).unwrap_err();
+/// assert_eq!(refusal, Refusal::new(Kind::Words, 0));
+/// assert_eq!(refusal.to_string(), "1 words 0");
+/// ```
 #[derive(Clone, Copy, Debug, PartialEq, Eq, Hash)]
 pub struct Refusal {
-    pub kind: Kind,
-    /// Where the fault is. `u32::MAX` stands for itself and for every larger place: the C boundary gives no larger one.
-    pub place: u32,
+    number: u32,
+    place: u32,
 }
 
 impl Refusal {
-    pub fn number(self) -> u32 {
-        self.kind.number()
-    }
-
-    pub fn word(self) -> &'static str {
-        self.kind.word()
+    /// A refusal of this kind at this place.
+    ///
+    /// ```
+    /// use fervoulk::{Kind, Refusal};
+    /// assert_eq!(Refusal::new(Kind::Row, 3).to_string(), "18 row 3");
+    /// ```
+    pub fn new(kind: Kind, place: u32) -> Refusal {
+        Refusal { number: kind.number(), place }
     }
 
     /// From an answer of the C boundary, number times 2 to the power 32 plus place; nothing where nothing is refused.
     pub(crate) fn of(answer: u64) -> Option<Refusal> {
-        let number = (answer >> 32) as usize;
-        let place = answer as u32;
-        if number == 0 {
+        let refusal = Refusal { number: (answer >> 32) as u32, place: answer as u32 };
+        if refusal.number == 0 {
             return None;
         }
-        Some(Refusal { kind: Kind::ALL[number - 1], place })
+        Some(refusal)
+    }
+
+    /// The number.
+    ///
+    /// ```
+    /// use fervoulk::{Kind, Refusal};
+    /// assert_eq!(Refusal::new(Kind::Count, 17).number(), 3);
+    /// ```
+    pub fn number(self) -> u32 {
+        self.number
+    }
+
+    /// Where the fault is. `u32::MAX` stands for itself and for every larger place: the C boundary gives no larger one.
+    ///
+    /// ```
+    /// use fervoulk::{Kind, Refusal};
+    /// assert_eq!(Refusal::new(Kind::Count, 17).place(), 17);
+    /// ```
+    pub fn place(self) -> u32 {
+        self.place
+    }
+
+    /// The kind, or nothing where archives newer than this crate give a number that it does not know.
+    ///
+    /// ```
+    /// use fervoulk::{Kind, Refusal};
+    /// assert_eq!(Refusal::new(Kind::Count, 17).kind(), Some(Kind::Count));
+    /// ```
+    pub fn kind(self) -> Option<Kind> {
+        Kind::of(self.number)
+    }
+
+    /// The word, "unknown" for a number that this crate does not know.
+    ///
+    /// ```
+    /// use fervoulk::{Kind, Refusal};
+    /// assert_eq!(Refusal::new(Kind::Count, 17).word(), "count");
+    /// ```
+    pub fn word(self) -> &'static str {
+        self.kind().map_or("unknown", Kind::word)
     }
 }
 
 impl fmt::Display for Refusal {
     fn fmt(&self, f: &mut fmt::Formatter<'_>) -> fmt::Result {
-        write!(f, "{} {} {}", self.number(), self.word(), self.place)
+        write!(f, "{} {} {}", self.number(), self.word(), self.place())
     }
 }
 
@@ -145,12 +226,14 @@ mod tests {
     #[test]
     fn answers() {
         assert_eq!(Refusal::of(0), None);
-        assert_eq!(Refusal::of((7 << 32) + 2), Some(Refusal { kind: Kind::Bounds, place: 2 }));
-        assert_eq!(Refusal::of((18 << 32) + 0xffff_ffff), Some(Refusal { kind: Kind::Row, place: u32::MAX }));
+        assert_eq!(Refusal::of((7 << 32) + 2), Some(Refusal::new(Kind::Bounds, 2)));
+        assert_eq!(Refusal::of((18 << 32) + 0xffff_ffff), Some(Refusal::new(Kind::Row, u32::MAX)));
     }
 
     #[test]
-    fn shown() {
-        assert_eq!(Refusal { kind: Kind::Short, place: 3 }.to_string(), "12 short 3");
+    fn a_number_that_is_not_known() {
+        let refusal = Refusal::of((99 << 32) + 5).expect("a refusal");
+        assert_eq!((refusal.number(), refusal.place(), refusal.kind()), (99, 5, None));
+        assert_eq!(refusal.to_string(), "99 unknown 5");
     }
 }

@@ -9,8 +9,8 @@ mod boundary;
 #[allow(dead_code)]
 mod depot;
 
-use boundary::compile::{compile_model, Lists};
-use boundary::validate::{validate_check, validate_objective, validate_residual};
+use boundary::compile::{fervoulk_compile, Lists};
+use boundary::validate::{fervoulk_check, fervoulk_objective, fervoulk_residual};
 use depot::{crossed, CONSTANTS, FILE, INACTIVE, NUMBERS, WORDS};
 
 const POINT: [f64; 4] = [0.0, 1.0, 1.0, 0.25];
@@ -48,15 +48,15 @@ fn nans_of_all_kinds() {
 /// The check by each of its functions: the packed answer, and what the list then has in front.
 fn checked(words: &[u32], numbers: &[f64], point: &[f64], solver: f64, length: usize, front: &[f64]) -> u64 {
     let mut outputs = nans(length);
-    let answer = validate_check(words, numbers, point, solver, &mut outputs);
-    assert!(holds(&outputs, front), "validate_check");
+    let answer = fervoulk_check(words, numbers, point, solver, &mut outputs);
+    assert!(holds(&outputs, front), "fervoulk_check");
     let mut outputs = nans(length);
-    validate_objective(words, numbers, point, solver, &mut outputs);
-    assert!(holds(&outputs, front), "validate_objective");
+    fervoulk_objective(words, numbers, point, solver, &mut outputs);
+    assert!(holds(&outputs, front), "fervoulk_objective");
     for i in 0..9 {
         let mut outputs = nans(length);
-        validate_residual(words, numbers, point, solver, &mut outputs, i);
-        assert!(holds(&outputs, front), "validate_residual {i}");
+        fervoulk_residual(words, numbers, point, solver, &mut outputs, i);
+        assert!(holds(&outputs, front), "fervoulk_residual {i}");
     }
     answer
 }
@@ -88,7 +88,7 @@ fn compiled(words: &[u32], numbers: &[f64], lengths: [usize; 7]) -> (u64, bool, 
     let mut lists: Vec<Vec<f64>> = lengths[1..].iter().map(|&length| nans(length)).collect();
     let [constants, column_lower, column_upper, start, row_lower, row_upper] = &mut lists[..] else { unreachable!() };
     let lent = Lists { words: &mut file, constants, column_lower, column_upper, start, row_lower, row_upper };
-    let answer = compile_model(words, numbers, lent);
+    let answer = fervoulk_compile(words, numbers, lent);
     let same = file.iter().all(|&word| word == GUARD) && lists.iter().all(|list| holds(list, &[]));
     let fronts: [&[f64]; 6] =
         [&CONSTANTS, &[-1e19, 0.9, 0.0, -1.0], &[1e19, 1.1, 2.0, 1.0], &[0.0, 1.0, 1.0, 0.25], &[0.0, 0.0, 0.0], &[0.0, 0.0, 0.0]];

@@ -3,7 +3,7 @@
 mod depot;
 
 use depot::{crossed, refusal, CONSTANTS, FILE, INACTIVE, NUMBERS, WORDS};
-use fervoulk::{check, find_row, same, Check, Kind, Outputs, Residuals};
+use fervoulk::{check, find_row, same, Accepted, Kind, Outputs, Refused, Residuals};
 
 const POINT: [f64; 4] = [0.0, 1.0, 1.0, 0.25];
 
@@ -18,13 +18,15 @@ const NONE: Residuals = Residuals {
     objective: 0.0,
 };
 
-fn refused(kind: Kind, place: u32) -> Check {
-    Check::Refused { refusal: refusal(kind, place), residuals: None }
+type Answer = Result<Accepted, Refused>;
+
+fn refused(kind: Kind, place: u32) -> Answer {
+    Err(Refused { refusal: refusal(kind, place), residuals: None })
 }
 
-fn accepted(residuals: Residuals) -> Check {
+fn accepted(residuals: Residuals) -> Answer {
     let outputs = Outputs { p_injection: vec![0.0], q_injection: vec![0.0], p_from: vec![], q_from: vec![], p_to: vec![], q_to: vec![] };
-    Check::Accepted { outputs, objective: 8.0, residuals }
+    Ok(Accepted { outputs, objective: 8.0, residuals })
 }
 
 // ---- check
@@ -35,9 +37,9 @@ fn points() {
     let at = accepted(Residuals { reference_angles: 1e-6, ..NONE });
     assert_eq!(check(&WORDS, &NUMBERS, &[1e-6, 1.0, 1.0, 0.25], 8.0), at);
     let next = f64::from_bits(1e-6f64.to_bits() + 1);
-    let above = Check::Refused { refusal: refusal(Kind::Residual, 4), residuals: Some(Residuals { reference_angles: next, ..NONE }) };
+    let above = Err(Refused { refusal: refusal(Kind::Residual, 4), residuals: Some(Residuals { reference_angles: next, ..NONE }) });
     assert_eq!(check(&WORDS, &NUMBERS, &[next, 1.0, 1.0, 0.25], 8.0), above);
-    let strong = Check::Refused { refusal: refusal(Kind::Residual, 1), residuals: Some(Residuals { active_balance: 0.5, ..NONE }) };
+    let strong = Err(Refused { refusal: refusal(Kind::Residual, 1), residuals: Some(Residuals { active_balance: 0.5, ..NONE }) });
     assert_eq!(check(&WORDS, &NUMBERS, &[0.0, 1.0, 1.5, 0.25], 10.75), strong);
 }
 
@@ -77,7 +79,7 @@ fn outputs_by_bus_and_branch() {
         p_to: vec![0.125],
         q_to: vec![-1.0],
     };
-    let accepted = Check::Accepted { outputs: expected, objective: 0.0, residuals: NONE };
+    let accepted = Ok(Accepted { outputs: expected, objective: 0.0, residuals: NONE });
     assert_eq!(check(&words, &numbers, &point, 0.0), accepted);
 }
 

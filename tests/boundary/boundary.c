@@ -100,25 +100,25 @@ static void test_nans(void) {
 /* ---- the finder */
 
 static void test_find_row(void) {
-    EXPECT(nl_find_row(LIST(model), 6, 4, 0) == 0);
-    EXPECT(nl_row_start(LIST(model), 6, 4, 0) == 4);
-    EXPECT(nl_row_length(LIST(model), 6, 4, 0) == 6);
-    EXPECT(nl_find_row(LIST(model), 6, 4, 2) == 0);
-    EXPECT(nl_row_start(LIST(model), 6, 4, 2) == 18);
-    EXPECT(nl_row_length(LIST(model), 6, 4, 2) == 1);
+    EXPECT(fervoulk_find_row(LIST(model), 6, 4, 0) == 0);
+    EXPECT(fervoulk_row_start(LIST(model), 6, 4, 0) == 4);
+    EXPECT(fervoulk_row_length(LIST(model), 6, 4, 0) == 6);
+    EXPECT(fervoulk_find_row(LIST(model), 6, 4, 2) == 0);
+    EXPECT(fervoulk_row_start(LIST(model), 6, 4, 2) == 18);
+    EXPECT(fervoulk_row_length(LIST(model), 6, 4, 2) == 1);
     EXPECT(model[18] == 0x10000000);
-    EXPECT(refused(nl_find_row(LIST(model), 6, 4, 3), FERVOULK_ROW, 3));
-    EXPECT(nl_row_start(LIST(model), 6, 4, 3) == 0);
-    EXPECT(nl_row_length(LIST(model), 6, 4, 3) == 0);
-    EXPECT(refused(nl_find_row(model, LENGTH(model) - 1, 6, 4, 2), FERVOULK_MODEL, 28));
-    EXPECT(nl_row_start(model, LENGTH(model) - 1, 6, 4, 2) == 0);
-    EXPECT(nl_row_length(model, LENGTH(model) - 1, 6, 4, 2) == 0);
-    EXPECT(refused(nl_find_row(LIST(model), 7, 4, 2), FERVOULK_MODEL, 28));
-    EXPECT(refused(nl_find_row(LIST(model), 6, 3, 2), FERVOULK_MODEL, 16));
-    EXPECT(refused(nl_find_row(LIST(model), SIZE_MAX, SIZE_MAX, SIZE_MAX), FERVOULK_MODEL, 28));
-    EXPECT(refused(nl_find_row(NULL, 0, 6, 4, 0), FERVOULK_MODEL, 0));
-    EXPECT(nl_row_start(NULL, 0, 6, 4, 0) == 0);
-    EXPECT(nl_row_length(NULL, 0, 6, 4, 0) == 0);
+    EXPECT(refused(fervoulk_find_row(LIST(model), 6, 4, 3), FERVOULK_ROW, 3));
+    EXPECT(fervoulk_row_start(LIST(model), 6, 4, 3) == 0);
+    EXPECT(fervoulk_row_length(LIST(model), 6, 4, 3) == 0);
+    EXPECT(refused(fervoulk_find_row(model, LENGTH(model) - 1, 6, 4, 2), FERVOULK_MODEL, 28));
+    EXPECT(fervoulk_row_start(model, LENGTH(model) - 1, 6, 4, 2) == 0);
+    EXPECT(fervoulk_row_length(model, LENGTH(model) - 1, 6, 4, 2) == 0);
+    EXPECT(refused(fervoulk_find_row(LIST(model), 7, 4, 2), FERVOULK_MODEL, 28));
+    EXPECT(refused(fervoulk_find_row(LIST(model), 6, 3, 2), FERVOULK_MODEL, 16));
+    EXPECT(refused(fervoulk_find_row(LIST(model), SIZE_MAX, SIZE_MAX, SIZE_MAX), FERVOULK_MODEL, 28));
+    EXPECT(refused(fervoulk_find_row(NULL, 0, 6, 4, 0), FERVOULK_MODEL, 0));
+    EXPECT(fervoulk_row_start(NULL, 0, 6, 4, 0) == 0);
+    EXPECT(fervoulk_row_length(NULL, 0, 6, 4, 0) == 0);
 }
 
 static void test_same(void) {
@@ -128,16 +128,16 @@ static void test_same(void) {
     uint32_t changed[LENGTH(model)];
     memcpy(changed, model, sizeof model);
     changed[28] = 0xC0000000;
-    EXPECT(nl_same(LIST(model), LIST(model_constants), LIST(model), LIST(model_constants)) == 1);
-    EXPECT(nl_same(LIST(model), LIST(model_constants), LIST(model), LIST(positive)) == 1);
-    EXPECT(nl_same(LIST(model), LIST(model_constants), LIST(model), LIST(other)) == 0);
-    EXPECT(nl_same(LIST(model), LIST(model_constants), LIST(changed), LIST(model_constants)) == 0);
-    EXPECT(nl_same(LIST(model), LIST(model_constants), model, 28, LIST(model_constants)) == 0);
-    EXPECT(nl_same(LIST(model), LIST(model_constants), LIST(model), model_constants, 5) == 0);
-    EXPECT(nl_same(LIST(model), LIST(none), LIST(model), LIST(none)) == 0);
-    EXPECT(nl_same(NULL, 0, NULL, 0, NULL, 0, NULL, 0) == 1);
-    EXPECT(nl_same(NULL, 0, NULL, 0, LIST(model), NULL, 0) == 0);
-    EXPECT(nl_same(NULL, 0, NULL, 0, NULL, 0, LIST(model_constants)) == 0);
+    EXPECT(fervoulk_same(LIST(model), LIST(model_constants), LIST(model), LIST(model_constants)) == 1);
+    EXPECT(fervoulk_same(LIST(model), LIST(model_constants), LIST(model), LIST(positive)) == 1);
+    EXPECT(fervoulk_same(LIST(model), LIST(model_constants), LIST(model), LIST(other)) == 0);
+    EXPECT(fervoulk_same(LIST(model), LIST(model_constants), LIST(changed), LIST(model_constants)) == 0);
+    EXPECT(fervoulk_same(LIST(model), LIST(model_constants), model, 28, LIST(model_constants)) == 0);
+    EXPECT(fervoulk_same(LIST(model), LIST(model_constants), LIST(model), model_constants, 5) == 0);
+    EXPECT(fervoulk_same(LIST(model), LIST(none), LIST(model), LIST(none)) == 0);
+    EXPECT(fervoulk_same(NULL, 0, NULL, 0, NULL, 0, NULL, 0) == 1);
+    EXPECT(fervoulk_same(NULL, 0, NULL, 0, LIST(model), NULL, 0) == 0);
+    EXPECT(fervoulk_same(NULL, 0, NULL, 0, NULL, 0, LIST(model_constants)) == 0);
 }
 
 /* ---- the check */
@@ -155,14 +155,14 @@ static void expect_check(
             after[1] = 0;
         }
         if (call == 0) {
-            const uint64_t answer = validate_check(w, 4, x, 17, p, columns, solver, LIST(outputs));
-            expect(refused(answer, number, place), "validate_check", line);
+            const uint64_t answer = fervoulk_check(w, 4, x, 17, p, columns, solver, LIST(outputs));
+            expect(refused(answer, number, place), "fervoulk_check", line);
         } else if (call == 1) {
-            expect(same_bits(validate_objective(w, 4, x, 17, p, columns, solver, LIST(outputs)), objective), "validate_objective", line);
+            expect(same_bits(fervoulk_objective(w, 4, x, 17, p, columns, solver, LIST(outputs)), objective), "fervoulk_objective", line);
         } else {
             const size_t i = call - 2;
-            const double is = validate_residual(w, 4, x, 17, p, columns, solver, LIST(outputs), i);
-            expect(same_bits(is, i == residual ? violation : 0), "validate_residual", line);
+            const double is = fervoulk_residual(w, 4, x, 17, p, columns, solver, LIST(outputs), i);
+            expect(same_bits(is, i == residual ? violation : 0), "fervoulk_residual", line);
         }
         expect(same_list(outputs, after, 2), "the two outputs", line);
         expect(same_list(outputs + 2, after + 2, LENGTH(after) - 2), "behind the outputs", line);
@@ -183,20 +183,69 @@ static void test_check(void) {
     expect_check(inactive, crossed, point, 4, 8, 0, 0, 8, 0, 0, __LINE__);
 }
 
+/* the residuals and the objective by one run, with 10 numbers lent of which 9 are written */
+static void expect_report(const double *x, const double *p, size_t columns, double solver, uint32_t number, uint32_t place,
+                          double objective, size_t residual, double violation, int line) {
+    double report[10];
+    for (size_t i = 0; i < LENGTH(report); i++) {
+        report[i] = 7;
+    }
+    const uint64_t answer = fervoulk_residuals(words, 4, x, 17, p, columns, solver, LIST(report));
+    expect(refused(answer, number, place), "fervoulk_residuals", line);
+    for (size_t i = 0; i < 8; i++) {
+        expect(same_bits(report[i], number != 0 ? 7 : i == residual ? violation : 0), "residual", line);
+    }
+    expect(same_bits(report[8], number != 0 ? 7 : objective), "objective", line);
+    expect(same_bits(report[9], 7), "behind the nine", line);
+}
+
+static void test_residuals(void) {
+    const double above[] = {nextafter(1e-6, 1), 1, 1, 0.25};
+    const double strong[] = {0, 1, 1.5, 0.25};
+    const double swung[] = {1025, 1, 1, 0.25};
+    double report[9];
+    expect_report(numbers, point, 4, 8, 0, 0, 8, 0, 0, __LINE__);
+    expect_report(numbers, above, 4, 8, 0, 0, 8, 3, above[0], __LINE__);
+    expect_report(numbers, strong, 4, 10.75, 0, 0, 10.75, 0, 0.5, __LINE__);
+    expect_report(numbers, point, 3, 8, FERVOULK_POINT, 4, 0, 0, 0, __LINE__);
+    expect_report(numbers, swung, 4, 8, FERVOULK_SWING, 0, 0, 0, 0, __LINE__);
+    expect_report(numbers, point, 4, INFINITY, FERVOULK_DERIVED, 2, 0, 0, 0, __LINE__);
+    expect_report(crossed, point, 4, 8, FERVOULK_BOUNDS, 2, 0, 0, 0, __LINE__);
+    EXPECT(fervoulk_residuals(NETWORK, LIST(point), 8, LIST(report)) == 0);
+    EXPECT(same_bits(report[8], 8));
+    report[0] = 7;
+    EXPECT(refused(fervoulk_residuals(NETWORK, LIST(point), 8, report, 8), FERVOULK_SHORT, 1));
+    EXPECT(same_bits(report[0], 7));
+    EXPECT(refused(fervoulk_residuals(NETWORK, NULL, 0, 8, NULL, 0), FERVOULK_SHORT, 1));
+    EXPECT(refused(fervoulk_residuals(NULL, 0, NULL, 0, NULL, 0, 8, NULL, 0), FERVOULK_WORDS, 0));
+}
+
+static void test_outputs(void) {
+    /* two buses and a branch between them */
+    static const uint32_t line[] = {0x10000000, 0x20000000, 0x20000000, 0x40001000, 0x50000000};
+    static const double line_numbers[27] = {[22] = 1};
+    EXPECT(fervoulk_outputs(NETWORK) == 2);
+    EXPECT(fervoulk_outputs(LIST(line), LIST(line_numbers)) == 8);
+    EXPECT(fervoulk_outputs(LIST(line), line_numbers, 26) == 0);
+    EXPECT(fervoulk_outputs(LIST(words), LIST(crossed)) == 0);
+    EXPECT(fervoulk_outputs(LIST(inactive), LIST(crossed)) == 2);
+    EXPECT(fervoulk_outputs(NULL, 0, NULL, 0) == 0);
+}
+
 static void test_check_lists(void) {
     double outputs[8], before[8];
     fill_nans(LIST(outputs), 0);
     fill_nans(LIST(before), 0);
-    EXPECT(refused(validate_check(NETWORK, LIST(point), 8, outputs, 1), FERVOULK_SHORT, 1));
-    EXPECT(refused(validate_check(NETWORK, LIST(point), 8, NULL, 0), FERVOULK_SHORT, 1));
-    EXPECT(refused(validate_check(NETWORK, NULL, 0, 8, LIST(outputs)), FERVOULK_POINT, 4));
-    EXPECT(refused(validate_check(LIST(words), NULL, 0, LIST(point), 8, LIST(outputs)), FERVOULK_COUNT, 17));
-    EXPECT(refused(validate_check(NULL, 0, LIST(numbers), LIST(point), 8, LIST(outputs)), FERVOULK_WORDS, 0));
-    EXPECT(refused(validate_check(NULL, 0, NULL, 0, NULL, 0, 8, NULL, 0), FERVOULK_WORDS, 0));
-    EXPECT(same_bits(validate_objective(NULL, 0, NULL, 0, NULL, 0, 8, NULL, 0), 0));
-    EXPECT(same_bits(validate_residual(NULL, 0, NULL, 0, NULL, 0, 8, NULL, 0, 0), 0));
+    EXPECT(refused(fervoulk_check(NETWORK, LIST(point), 8, outputs, 1), FERVOULK_SHORT, 1));
+    EXPECT(refused(fervoulk_check(NETWORK, LIST(point), 8, NULL, 0), FERVOULK_SHORT, 1));
+    EXPECT(refused(fervoulk_check(NETWORK, NULL, 0, 8, LIST(outputs)), FERVOULK_POINT, 4));
+    EXPECT(refused(fervoulk_check(LIST(words), NULL, 0, LIST(point), 8, LIST(outputs)), FERVOULK_COUNT, 17));
+    EXPECT(refused(fervoulk_check(NULL, 0, LIST(numbers), LIST(point), 8, LIST(outputs)), FERVOULK_WORDS, 0));
+    EXPECT(refused(fervoulk_check(NULL, 0, NULL, 0, NULL, 0, 8, NULL, 0), FERVOULK_WORDS, 0));
+    EXPECT(same_bits(fervoulk_objective(NULL, 0, NULL, 0, NULL, 0, 8, NULL, 0), 0));
+    EXPECT(same_bits(fervoulk_residual(NULL, 0, NULL, 0, NULL, 0, 8, NULL, 0, 0), 0));
     EXPECT(same_list(outputs, before, LENGTH(before)));
-    EXPECT(same_bits(validate_residual(NETWORK, LIST(point), 8, LIST(outputs), SIZE_MAX), 0));
+    EXPECT(same_bits(fervoulk_residual(NETWORK, LIST(point), 8, LIST(outputs), SIZE_MAX), 0));
     EXPECT(same_bits(outputs[0], 0) && same_bits(outputs[1], 0));
     EXPECT(same_list(outputs + 2, before + 2, LENGTH(before) - 2));
 }
@@ -224,7 +273,7 @@ static void fill(struct lent *l) {
 /* compiles into lists of those lengths */
 static uint64_t compile_into(struct lent *l, const uint32_t *w, size_t w_length, const double *x, size_t x_length, const size_t *lengths) {
     fill(l);
-    return compile_model(
+    return fervoulk_compile(
         w, w_length, x, x_length, l->words, lengths[0], l->numbers[0], lengths[1], l->numbers[1], lengths[2], l->numbers[2], lengths[3],
         l->numbers[3], lengths[4], l->numbers[4], lengths[5], l->numbers[5], lengths[6]);
 }
@@ -263,12 +312,12 @@ static void test_compile(void) {
     EXPECT(has_model(&l, start));
     EXPECT(compile_into(&l, NETWORK, exact) == 0);
     EXPECT(has_model(&l, start));
-    EXPECT(compile_words(NETWORK) == 29);
-    EXPECT(compile_constants(NETWORK) == 6);
-    EXPECT(compile_columns(NETWORK) == 4);
-    EXPECT(compile_rows(NETWORK) == 3);
-    EXPECT(compile_shared(NETWORK) == 1);
-    EXPECT(same_bits(compile_objective(NETWORK), 4));
+    EXPECT(fervoulk_words(NETWORK) == 29);
+    EXPECT(fervoulk_constants(NETWORK) == 6);
+    EXPECT(fervoulk_columns(NETWORK) == 4);
+    EXPECT(fervoulk_rows(NETWORK) == 3);
+    EXPECT(fervoulk_shared(NETWORK) == 1);
+    EXPECT(same_bits(fervoulk_objective_constant(NETWORK), 4));
     /* va start 7, vm start 1.25 */
     double moved[LENGTH(numbers)];
     memcpy(moved, numbers, sizeof numbers);
@@ -277,21 +326,21 @@ static void test_compile(void) {
     EXPECT(compile_into(&l, LIST(words), LIST(moved), long_enough) == 0);
     EXPECT(has_model(&l, moved_start));
     /* what compile writes, the finder reads */
-    EXPECT(nl_find_row(l.words, 29, 6, 4, 2) == 0);
-    EXPECT(nl_same(l.words, 29, l.numbers[0], 6, LIST(model), LIST(model_constants)) == 1);
+    EXPECT(fervoulk_find_row(l.words, 29, 6, 4, 2) == 0);
+    EXPECT(fervoulk_same(l.words, 29, l.numbers[0], 6, LIST(model), LIST(model_constants)) == 1);
 }
 
 static void test_compile_refused(void) {
     struct lent l;
     EXPECT(refused(compile_into(&l, LIST(words), LIST(crossed), long_enough), FERVOULK_BOUNDS, 2));
     EXPECT(untouched(&l));
-    EXPECT(compile_words(LIST(words), LIST(crossed)) == 0);
-    EXPECT(compile_constants(LIST(words), LIST(crossed)) == 0);
-    EXPECT(compile_columns(LIST(words), LIST(crossed)) == 0);
-    EXPECT(compile_rows(LIST(words), LIST(crossed)) == 0);
-    EXPECT(compile_shared(LIST(words), LIST(crossed)) == 0);
-    EXPECT(same_bits(compile_objective(LIST(words), LIST(crossed)), 0));
-    EXPECT(compile_words(LIST(inactive), LIST(crossed)) == 29);
+    EXPECT(fervoulk_words(LIST(words), LIST(crossed)) == 0);
+    EXPECT(fervoulk_constants(LIST(words), LIST(crossed)) == 0);
+    EXPECT(fervoulk_columns(LIST(words), LIST(crossed)) == 0);
+    EXPECT(fervoulk_rows(LIST(words), LIST(crossed)) == 0);
+    EXPECT(fervoulk_shared(LIST(words), LIST(crossed)) == 0);
+    EXPECT(same_bits(fervoulk_objective_constant(LIST(words), LIST(crossed)), 0));
+    EXPECT(fervoulk_words(LIST(inactive), LIST(crossed)) == 29);
     /* each list one element short, and each list empty */
     for (size_t list = 0; list < 7; list++) {
         size_t lengths[7];
@@ -308,15 +357,15 @@ static void test_compile_refused(void) {
     EXPECT(refused(compile_into(&l, NULL, 0, LIST(numbers), long_enough), FERVOULK_WORDS, 0));
     EXPECT(untouched(&l));
     EXPECT(refused(
-        compile_model(NETWORK, NULL, 0, NULL, 0, NULL, 0, NULL, 0, NULL, 0, NULL, 0, NULL, 0), FERVOULK_SHORT, 1));
+        fervoulk_compile(NETWORK, NULL, 0, NULL, 0, NULL, 0, NULL, 0, NULL, 0, NULL, 0, NULL, 0), FERVOULK_SHORT, 1));
     EXPECT(refused(
-        compile_model(NULL, 0, NULL, 0, NULL, 0, NULL, 0, NULL, 0, NULL, 0, NULL, 0, NULL, 0, NULL, 0), FERVOULK_WORDS, 0));
-    EXPECT(compile_words(NULL, 0, NULL, 0) == 0);
-    EXPECT(compile_constants(NULL, 0, NULL, 0) == 0);
-    EXPECT(compile_columns(NULL, 0, NULL, 0) == 0);
-    EXPECT(compile_rows(NULL, 0, NULL, 0) == 0);
-    EXPECT(compile_shared(NULL, 0, NULL, 0) == 0);
-    EXPECT(same_bits(compile_objective(NULL, 0, NULL, 0), 0));
+        fervoulk_compile(NULL, 0, NULL, 0, NULL, 0, NULL, 0, NULL, 0, NULL, 0, NULL, 0, NULL, 0, NULL, 0), FERVOULK_WORDS, 0));
+    EXPECT(fervoulk_words(NULL, 0, NULL, 0) == 0);
+    EXPECT(fervoulk_constants(NULL, 0, NULL, 0) == 0);
+    EXPECT(fervoulk_columns(NULL, 0, NULL, 0) == 0);
+    EXPECT(fervoulk_rows(NULL, 0, NULL, 0) == 0);
+    EXPECT(fervoulk_shared(NULL, 0, NULL, 0) == 0);
+    EXPECT(same_bits(fervoulk_objective_constant(NULL, 0, NULL, 0), 0));
 }
 
 int main(void) {
@@ -325,6 +374,8 @@ int main(void) {
     test_find_row();
     test_same();
     test_check();
+    test_outputs();
+    test_residuals();
     test_check_lists();
     test_compile();
     test_compile_refused();

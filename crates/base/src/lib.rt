@@ -13,14 +13,14 @@ pub struct Fault {
     pub place: usize,
 }
 
-// The top 4 bits.
+// A word's kind is its top 4 bits.
 pub fn kind_of(w: u32) -> u32
     ensures { λ r. ⌜ r ≡ kindOf w ⌝ }
 {
     w >> 28
 }
 
-// The other 28.
+// A word's load is its other 28 bits.
 pub fn load_of(w: u32) -> u32
     ensures { λ r. ⌜ r ≡ loadOf w ⌝ }
 {

@@ -10,7 +10,7 @@ ghost use Rattle.compile.specs.Lists.{lists, lent, Held};
 
 // The refusal's number times 2 to the power 32 plus its place; the lists are left as by compile.
 #[no_mangle]
-pub extern "C" fn compile_model(
+pub extern "C" fn fervoulk_compile(
     words: &[u32],
     numbers: &[f64],
     model_words: &mut [u32],
@@ -48,7 +48,7 @@ pub extern "C" fn compile_model(
 // The numbers of the answer that a host needs before it lends lists: those of lists exactly as long as their results, and 0 where the network
 // is refused.
 #[no_mangle]
-pub extern "C" fn compile_words(words: &[u32], numbers: &[f64]) -> usize
+pub extern "C" fn fervoulk_words(words: &[u32], numbers: &[f64]) -> usize
     ensures { λ r. ⌜ r ≡ sized (now (words .entry)) (now (numbers .entry)) .words ⌝ }
 {
     let answer = sized(words, numbers);
@@ -56,7 +56,7 @@ pub extern "C" fn compile_words(words: &[u32], numbers: &[f64]) -> usize
 }
 
 #[no_mangle]
-pub extern "C" fn compile_constants(words: &[u32], numbers: &[f64]) -> usize
+pub extern "C" fn fervoulk_constants(words: &[u32], numbers: &[f64]) -> usize
     ensures { λ r. ⌜ r ≡ sized (now (words .entry)) (now (numbers .entry)) .constants ⌝ }
 {
     let answer = sized(words, numbers);
@@ -64,7 +64,7 @@ pub extern "C" fn compile_constants(words: &[u32], numbers: &[f64]) -> usize
 }
 
 #[no_mangle]
-pub extern "C" fn compile_columns(words: &[u32], numbers: &[f64]) -> usize
+pub extern "C" fn fervoulk_columns(words: &[u32], numbers: &[f64]) -> usize
     ensures { λ r. ⌜ r ≡ sized (now (words .entry)) (now (numbers .entry)) .columns ⌝ }
 {
     let answer = sized(words, numbers);
@@ -72,7 +72,7 @@ pub extern "C" fn compile_columns(words: &[u32], numbers: &[f64]) -> usize
 }
 
 #[no_mangle]
-pub extern "C" fn compile_rows(words: &[u32], numbers: &[f64]) -> usize
+pub extern "C" fn fervoulk_rows(words: &[u32], numbers: &[f64]) -> usize
     ensures { λ r. ⌜ r ≡ sized (now (words .entry)) (now (numbers .entry)) .rows ⌝ }
 {
     let answer = sized(words, numbers);
@@ -80,7 +80,7 @@ pub extern "C" fn compile_rows(words: &[u32], numbers: &[f64]) -> usize
 }
 
 #[no_mangle]
-pub extern "C" fn compile_shared(words: &[u32], numbers: &[f64]) -> usize
+pub extern "C" fn fervoulk_shared(words: &[u32], numbers: &[f64]) -> usize
     ensures { λ r. ⌜ r ≡ sized (now (words .entry)) (now (numbers .entry)) .shared ⌝ }
 {
     let answer = sized(words, numbers);
@@ -88,7 +88,7 @@ pub extern "C" fn compile_shared(words: &[u32], numbers: &[f64]) -> usize
 }
 
 #[no_mangle]
-pub extern "C" fn compile_objective(words: &[u32], numbers: &[f64]) -> f64
+pub extern "C" fn fervoulk_objective_constant(words: &[u32], numbers: &[f64]) -> f64
     ensures { λ r. ⌜ r ≡ sized (now (words .entry)) (now (numbers .entry)) .objective ⌝ }
 {
     let answer = sized(words, numbers);

@@ -23,7 +23,7 @@ ghost use Rattle.network.specs.Network.{buses, generators, branches, references
 ghost use Rattle.compile.specs.Compile.{refused, accepted, sized, compiled};
 ghost use Rattle.compile.specs.Tallies.{Tallied, Few};
 
-// All counts are 0.
+// A refusal's answer has counts of 0.
 fn refused(f: Fault) -> Compiled
     ensures { λ r. ⌜ r ≡ refused f ⌝ }
 {
@@ -87,7 +87,7 @@ fn cost_words(k: usize, epigraphs: usize) -> usize
     terms
 }
 
-// The objective's: where it has no term, the one of a constant.
+// Counts the objective's words; without a term it is one constant.
 fn objective_words(priced: bool, k: usize, epigraphs: usize) -> usize
     requires { ⌜ (epigraphs ≤ k) × (k ≤ 256) ⌝ }
     ensures { λ r. ⌜ (r ≡ cond (priced && not (eqb k 0)) (bit (ltb 1 k) + (epigraphs + 8 * (k - epigraphs))) 1) × (r ≤ 2049) ⌝ }
@@ -99,7 +99,7 @@ fn objective_words(priced: bool, k: usize, epigraphs: usize) -> usize
     1
 }
 
-// All words; `objective` is the objective's share.
+// Counts all words; `objective` is the objective's share.
 fn words_needed(t: Tallies, objective: usize) -> usize
     requires { ⌜ Few t × (objective ≤ 2049) ⌝ }
     ensures { λ r. ⌜ r ≡ 15 * t .buses + 2 * t .generators + 74 * t .branches + 2 * t .references + 4 * t .angles + 16 * t .rated + 8 * t .segments + 2 + objective ⌝ }
@@ -143,7 +143,7 @@ fn shared_needed(t: Tallies) -> usize
     t.buses + 8 * t.branches
 }
 
-// Of a network that is not refused.
+// The answer for a network that is not refused.
 fn accepted(words: &[u32], numbers: &[f64], sizes: Sizes) -> Compiled
     requires { ⌜ (sizes .buses ≡ buses (now words)) × (sizes .generators ≡ generators (now words)) × (sizes .branches ≡ branches (now words))
         × (sizes .references ≡ references (now words)) × (faultTables (now words) (now numbers) .number ≡ 0) ⌝ }

@@ -76,8 +76,8 @@ fn show_rows(list: &[u32], count: usize, constants: usize, columns: usize) {
         let fault = nl::find_row(file, constants, columns, r);
         print(fault.number as u64);
         print(fault.place as u64);
-        print(nl::nl_row_start(file, constants, columns, r) as u64);
-        print(nl::nl_row_length(file, constants, columns, r) as u64);
+        print(nl::fervoulk_row_start(file, constants, columns, r) as u64);
+        print(nl::fervoulk_row_length(file, constants, columns, r) as u64);
         io::write_all(STDOUT_FILENO, b"\n");
         r += 1;
     }

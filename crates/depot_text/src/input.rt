@@ -79,7 +79,7 @@ pub(crate) fn read_words(bytes: &[u8], words: &mut [u32]) -> usize
     count
 }
 
-// The same with the numbers.
+// Reads the numbers, as `read_words` reads the words.
 pub(crate) fn read_numbers(bytes: &[u8], numbers: &mut [f64]) -> usize
     requires { ⌜ (formed (now bytes) ≡ true) × (2048 ≤ length (now numbers)) ⌝ }
     ensures { λ r. ⌜ (take r (now (numbers .exit)) ≡ inputNumbers (now (bytes .entry))) × (r ≤ length (now (numbers .exit))) ⌝ }

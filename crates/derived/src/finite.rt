@@ -1,4 +1,4 @@
-// Refusal 15, derived: the first output that is not finite, then the solver's objective, then the own one.
+// Refusal 15, derived: the first output that is not finite, then the solver's objective, then the check's own.
 use base::Fault;
 ghost use mathlib.Core.Path.{_≡_};
 ghost use mathlib.Core.List.{[], _∷_, _++_};

@@ -60,7 +60,7 @@ fn segment_row(
     )
 }
 
-// Of a curve whose numbers start at `at`, the first `count` segments.
+// Writes the rows of the first `count` segments of a curve whose numbers start at `at`.
 fn segment_rows(
     numbers: &[f64],
     at: usize,

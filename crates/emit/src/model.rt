@@ -63,7 +63,7 @@ fn branch_rows(
     curve_rows(words, numbers, sizes, file, constants, limits)
 }
 
-// All that follows the shared parts.
+// Writes all that follows the shared parts.
 fn after_parts(
     words: &[u32],
     numbers: &[f64],
@@ -84,7 +84,7 @@ fn after_parts(
     objective_and_end(words, numbers, sizes, file, constants, of_branches)
 }
 
-// Of a network that is not refused, into lists that are long enough.
+// Writes the model file of a network that is not refused, into lists that are long enough.
 pub fn write_model(
     words: &[u32],
     numbers: &[f64],

@@ -132,7 +132,7 @@ fn cost_term(
     )
 }
 
-// Of the first `count` generators.
+// Writes the cost terms of the first `count` generators.
 fn cost_terms(
     words: &[u32],
     numbers: &[f64],

@@ -177,7 +177,7 @@ fn thermal_pair(
     writer
 }
 
-// Of m branches, whose words start at `first` and whose numbers at `start`.
+// Writes the thermal rows of m branches, whose words start at `first` and whose numbers at `start`.
 pub(crate) fn thermal_rows(
     words: &[u32],
     numbers: &[f64],

@@ -24,7 +24,7 @@ pub fn upper_bound(active: bool, given: f64) -> f64
     1e19
 }
 
-// Of pg or qg.
+// The start of a pg or qg column.
 pub fn generator_start(active: bool, given: f64, lower: f64, upper: f64) -> f64
     ensures { λ r. ⌜ r ≡ clampStart given (cond active lower (neg huge64)) (cond active upper huge64) ⌝ }
 {

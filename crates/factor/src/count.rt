@@ -52,7 +52,7 @@ pub fn counted(count: usize, test: bool) -> usize
     count
 }
 
-// Of m branches, whose numbers start at `start`.
+// Counts the rated branches of m, whose numbers start at `start`.
 pub fn rated_count(
     words: &[u32],
     numbers: &[f64],
@@ -75,7 +75,7 @@ pub fn rated_count(
     count
 }
 
-// Of k generators.
+// Counts the curve segments of k generators.
 pub fn segment_count(words: &[u32], n: usize, k: usize, priced: bool) -> usize
     requires { ⌜ (n ≡ buses (now words)) × (priced ≡ costs (now words)) × (k ≤ 256) × (1 + n + k ≤ length (now words)) ⌝ }
     ensures { λ r. ⌜ (r ≡ segmentsBefore (now (words .entry)) k) × (r ≤ 31 * k) ⌝ }

@@ -40,7 +40,7 @@ pub fn validate_bounds(lower: f64, upper: f64) -> bool
     low & high & !above
 }
 
-// The same where the bounds are active.
+// Bounds that are not active are right.
 pub(crate) fn validate_active(active: bool, lower: f64, upper: f64) -> bool
     ensures { λ r. ⌜ r ≡ (not active || boundsRight lower upper) ⌝ }
 {

@@ -424,7 +424,12 @@ pub fn same(words_a: &[u32], constants_a: &[f64], words_b: &[u32], constants_b: 
 
 // For C: the number times 2 to the power 32, plus the place, which is capped.
 #[no_mangle]
-pub extern "C" fn nl_find_row(words: &[u32], constants: usize, columns: usize, r: usize) -> u64
+pub extern "C" fn fervoulk_find_row(
+    words: &[u32],
+    constants: usize,
+    columns: usize,
+    r: usize,
+) -> u64
     ensures { λ n. ⌜ n ≡ packed (findRow (now (words .entry)) constants columns r) ⌝ }
 {
     base::packed(find_row(words, constants, columns, r))
@@ -432,7 +437,12 @@ pub extern "C" fn nl_find_row(words: &[u32], constants: usize, columns: usize, r
 
 // For C: where the part of `row` starts in the words, 0 where it is refused.
 #[no_mangle]
-pub extern "C" fn nl_row_start(words: &[u32], constants: usize, columns: usize, r: usize) -> usize
+pub extern "C" fn fervoulk_row_start(
+    words: &[u32],
+    constants: usize,
+    columns: usize,
+    r: usize,
+) -> usize
     ensures { λ n. ⌜ n ≡ rowStart (now (words .entry)) constants columns r ⌝ }
 {
     let part = find(words, constants, columns, r);
@@ -441,7 +451,12 @@ pub extern "C" fn nl_row_start(words: &[u32], constants: usize, columns: usize, 
 
 // For C: how long it is, 0 where it is refused.
 #[no_mangle]
-pub extern "C" fn nl_row_length(words: &[u32], constants: usize, columns: usize, r: usize) -> usize
+pub extern "C" fn fervoulk_row_length(
+    words: &[u32],
+    constants: usize,
+    columns: usize,
+    r: usize,
+) -> usize
     ensures { λ n. ⌜ n ≡ rowLength (now (words .entry)) constants columns r ⌝ }
 {
     let part = find(words, constants, columns, r);
@@ -450,7 +465,7 @@ pub extern "C" fn nl_row_length(words: &[u32], constants: usize, columns: usize,
 
 // For C: 1 where two models are the same, else 0.
 #[no_mangle]
-pub extern "C" fn nl_same(
+pub extern "C" fn fervoulk_same(
     words_a: &[u32],
     constants_a: &[f64],
     words_b: &[u32],

@@ -104,7 +104,7 @@ fn fault_right(data: &[u8], at: usize, words: &[u32]) -> bool {
     if f.place != number(data, at, 5) {
         return false;
     }
-    let packed = nl::nl_find_row(words, constants, columns, r);
+    let packed = nl::fervoulk_find_row(words, constants, columns, r);
     if packed / 0x1_0000_0000 != f.number as u64 {
         return false;
     }
@@ -122,10 +122,10 @@ fn part_right(data: &[u8], at: usize, words: &[u32]) -> bool {
     if words.len() < end {
         return false;
     }
-    if nl::nl_row_start(words, constants, columns, r) != start {
+    if nl::fervoulk_row_start(words, constants, columns, r) != start {
         return false;
     }
-    if nl::nl_row_length(words, constants, columns, r) != length {
+    if nl::fervoulk_row_length(words, constants, columns, r) != length {
         return false;
     }
     same_part(nl::row(words, constants, columns, r), &words[start..end])
@@ -186,7 +186,7 @@ fn one_same(
     if nl::same(words_a, constants_a, words_b, constants_b) != (answer == 1) {
         return false;
     }
-    nl::nl_same(words_a, constants_a, words_b, constants_b) == answer
+    nl::fervoulk_same(words_a, constants_a, words_b, constants_b) == answer
 }
 
 fn right(data: &[u8], at: usize) -> bool {

@@ -52,7 +52,7 @@ fn word(bytes: &[u8], at: usize, i: usize) -> u32 {
     half(bytes, (at + i) * 8)
 }
 
-// Of the words that stand two a cell from cell i on, word k.
+// Reads word k of those that stand two a cell from cell i on.
 fn half_cell(bytes: &[u8], at: usize, i: usize, k: usize) -> u32
     requires { ⌜ (i < 17179869184) × (k < 4294967296) ⌝ }
 {

@@ -59,7 +59,7 @@ module _ (ws : List ℕ) (xs : List Float) where
   compile-read before after r is held doubles e =
       rw (is, held .words, held .constants) (compiled-reads doubles (lent before) (rw is at e) (before .words) (before .constants))
 
-  -- The same across the C boundary: the clauses of compile_model's `ensures`, and that it answers 0. The counts are those of the getters, numbers of `sized`.
+  -- The same across the C boundary: the clauses of fervoulk_compile's `ensures`, and that it answers 0. The counts are those of the getters, numbers of `sized`.
   pub compile-model-read : (before after : Lists) (r : ℕ) → r ≡ packed (fault (compiled ws xs (lent before) .number) (compiled ws xs (lent before) .place)) → Held ws xs before after
       → Doubles xs → r ≡ 0 → FileReads (sized ws xs) after ws xs
   compile-model-read before after r is held doubles e =

@@ -107,7 +107,7 @@ pub fn write_row_lower(words: &[u32], numbers: &[f64], sizes: Sizes, out: &mut [
     write_bounds(words, numbers, sizes, 8, 0.0, out);
 }
 
-// The same for row upper.
+// Writes row upper.
 pub fn write_row_upper(words: &[u32], numbers: &[f64], sizes: Sizes, out: &mut [f64])
     requires { ⌜ (sizes .buses ≡ buses (now words)) × (sizes .generators ≡ generators (now words)) × (sizes .branches ≡ branches (now words)) × (sizes .references ≡ references (now words))
         × (faultTables (now words) (now numbers) .number ≡ 0) × (length (rows (now words) (now numbers)) ≤ length (now out)) ⌝ }

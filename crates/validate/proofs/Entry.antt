@@ -5,7 +5,7 @@ use Prim.Native.Nat.{ℕ, _+_, _*_, _≤_, _-_}
 use native.Mathlib.Omega.{arith}
 use lib.ListN.{length, take}
 use lib.Ieee.{Float}
-use borrow.Author.Tests.{leb-true, eqb-true, eq-eqb}
+use borrow.Author.Tests.{leb-true, eqb-true, eq-eqb, ne-eqb}
 use Rattle.base.specs.declared.Fault.{Fault}
 use Rattle.base.proofs.Firsts.{Clear, or-left, unless-true, or-go, unless-clear}
 use Rattle.base.specs.Order.{numbersOf}
@@ -17,7 +17,7 @@ use Rattle.network.specs.Fault.{faultTables}
 use Rattle.acopf.specs.Factor.{faultFactor, networkSections, networkFault, firstNonFinite}
 use Rattle.acopf.proofs.Order.{network-is, network-refusal}
 use Rattle.validate.specs.declared.Checked.{Checked}
-use Rattle.validate.specs.Check.{faultOutput, faultPoint, faultSwing, checkFault, checked, outputsAfter}
+use Rattle.validate.specs.Check.{outputsNeeded, faultOutput, faultPoint, faultSwing, checkFault, checked, outputsAfter}
 use Rattle.validate.specs.Verdict.{refusal}
 use Rattle.validate.proofs.Order.{output-spans, point-spans, swing-spans}
 use Rattle.validate.proofs.Verdict.{refused-is, list-kept, by-network, by-output, by-point, by-swing}
@@ -47,6 +47,16 @@ module _ (ws : List ℕ) (xs : List Float) where
   pub buses-within : buses ws ≤ columns ws
   unfolding columns
   buses-within = omega arith
+
+  -- ---- the length of the outputs, from the network alone
+
+  pub needed-refused : {f : Fault} → f ≡ networkFault ws xs → (f .number ≡ 0 → ⊥) → 0 ≡ outputsNeeded ws xs
+  unfolding outputsNeeded
+  needed-refused {f} e n = rw (← e, ne-eqb (f .number) 0 n)
+
+  pub needed-is : {f : Fault} (n m : ℕ) → f ≡ networkFault ws xs → f .number ≡ 0 → n ≡ buses ws → m ≡ branches ws → 2 * n + 4 * m ≡ outputsNeeded ws xs
+  unfolding outputsNeeded
+  needed-is {f} n m e z en em = rw (← e, eq-eqb (f .number) 0 z, en, em)
 
 module _ (ws : List ℕ) (xs x : List Float) (solver : Float) where
   pub point-given : Clear (faultPoint ws xs x solver) → length x ≡ columns ws

@@ -95,16 +95,22 @@ module _ (ws : List ℕ) (xs x : List Float) (solver : Float) where
         let k : f ≡ checkFault ws xs x solver lent = e ∙ by-residual d in
         rw (← k, eq-eqb (f .number) 0 n, q, o)
 
--- ---- the three ways out, from the scratch lists
+-- ---- from the scratch lists
 
-module _ {ws : List ℕ} {xs x : List Float} {n m : ℕ} {p q pf qf pt qt : List Float} {own : Float} (H : Held ws xs x n m p q pf qf pt qt own) (solver : Float) (before : List Float)
-    (C : Cleared ws xs x solver (length before)) (d : Fault) (is : d ≡ firstNonFinite 15 (listed n m p q pf qf pt qt ++ (solver ∷ own ∷ []))) where
+module _ {ws : List ℕ} {xs x : List Float} {n m : ℕ} {p q pf qf pt qt : List Float} {own : Float} (H : Held ws xs x n m p q pf qf pt qt own) where
   outputs-are : listed n m p q pf qf pt qt ≡ outputs ws xs x (flows ws xs x)
   outputs-are =
       listed-outputs ws xs x n m p q pf qf pt qt (H .buses-are) (H .branches-are) (H .p-long) (H .q-long) (H .pf-long) (H .qf-long) (H .pt-long) (H .qt-long) (H .p-are) (H .q-are) (H .flows-are)
 
+  -- 15
+  pub derived-of : (solver : Float) (d : Fault) → d ≡ firstNonFinite 15 (listed n m p q pf qf pt qt ++ (solver ∷ own ∷ [])) → d ≡ faultDerived ws xs x solver (solved ws xs x solver)
+  derived-of solver d is = is ∙ derived-is ws xs x solver own _ outputs-are (H .own-is)
+
+-- the three ways out
+module _ {ws : List ℕ} {xs x : List Float} {n m : ℕ} {p q pf qf pt qt : List Float} {own : Float} (H : Held ws xs x n m p q pf qf pt qt own) (solver : Float) (before : List Float)
+    (C : Cleared ws xs x solver (length before)) (d : Fault) (is : d ≡ firstNonFinite 15 (listed n m p q pf qf pt qt ++ (solver ∷ own ∷ []))) where
   derived : d ≡ faultDerived ws xs x solver (solved ws xs x solver)
-  derived = is ∙ derived-is ws xs x solver own _ outputs-are (H .own-is)
+  derived = derived-of H solver d is
 
   derived-clear : d .number ≡ 0 → Clear (faultDerived ws xs x solver (solved ws xs x solver))
   derived-clear z = ap (λ f. f .number) (sym derived) ∙ z
@@ -135,7 +141,7 @@ module _ {ws : List ℕ} {xs x : List Float} {n m : ℕ} {p q pf qf pt qt : List
   says-0 f r after z e k c a =
       let g : f ≡ faultResidual ws xs x solver (solved ws xs x solver) = rw e at k in
       let h : Clear (checkFault ws xs x solver (length before)) = ap (λ y. y .number) (sym (g ∙ by-residual ws xs x solver (length before) C (derived-clear z))) ∙ c in
-      (accepted-answer ws xs x solver (length before) C f r own (derived-clear z) g c e (H .own-is), a ∙ outputs-left ws xs x solver n m _ before (H .buses-are) (H .branches-are) outputs-are h)
+      (accepted-answer ws xs x solver (length before) C f r own (derived-clear z) g c e (H .own-is), a ∙ outputs-left ws xs x solver n m _ before (H .buses-are) (H .branches-are) (outputs-are H) h)
 
 pub held : (ws : List ℕ) (xs x : List Float) (n m : ℕ) (p q pf qf pt qt : List Float) (own : Float) → n ≡ buses ws → m ≡ branches ws
     → n ≤ length p → n ≤ length q → m ≤ length pf → m ≤ length qf → m ≤ length pt → m ≤ length qt

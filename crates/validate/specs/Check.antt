@@ -23,6 +23,10 @@ tiny64 = ofBits binary64 0x3EB0_C6F7_A0B5_ED8D
 unfoldable pub tolerances : List Float
 tolerances = replicate 8 tiny64
 
+-- the length of the outputs, from the network alone: 2n + 4m, and 0 for a refused network
+unfoldable pub outputsNeeded : List ℕ → List Float → ℕ
+outputsNeeded ws xs = cond (eqb (networkFault ws xs .number) 0) (2 * buses ws + 4 * branches ws) 0
+
 -- what is calculated from a point
 pub record Solved : Type 0 where
   pub outputs : List Float
@@ -83,3 +87,22 @@ module _ (ws : List ℕ) (xs x : List Float) (solver : Float) where
   -- the output list after the call, from what it held before: the outputs in front and the rest as it was, or all as it was
   abbrev pub outputsAfter : List Float → List Float
   outputsAfter before = left (checkFault (length before)) (solved .outputs) before
+
+  -- ---- the residuals and the objective of a point that the check may refuse with 16
+
+  -- "Eight residuals", then the objective
+  unfoldable pub reported : Solved → List Float
+  reported s = s .residuals ++ (s .objective ∷ [])
+
+  -- 12 short, for the one list that is written here, of length `lent`
+  unfoldable pub faultReport : ℕ → Fault
+  faultReport lent = unless (leb 9 lent) (fault 12 1)
+
+  -- 1 to 15 as the check's; a residual above its tolerance is no refusal
+  unfoldable pub residualsFault : ℕ → Fault
+  residualsFault lent =
+      orElse (networkFault ws xs) (orElse (faultReport lent) (orElse faultPoint (orElse faultSwing (faultDerived solved))))
+
+  -- that list after the call
+  abbrev pub reportAfter : List Float → List Float
+  reportAfter before = left (residualsFault (length before)) (reported solved) before

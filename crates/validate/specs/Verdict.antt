@@ -15,12 +15,19 @@ use Rattle.derived.specs.Agree.{Agrees}
 use Rattle.derived.specs.Outputs.{pInjection, qInjection, ownObjective}
 use Rattle.derived.specs.Scratch.{FlowsAre}
 use Rattle.validate.specs.declared.Checked.{Checked}
-use Rattle.validate.specs.Check.{faultOutput, faultPoint, faultSwing}
+use Rattle.validate.specs.Check.{faultOutput, faultReport, faultPoint, faultSwing}
 
 -- refusals 1 to 14 are clear; the output list has `lent` numbers
 pub record Cleared (ws : List ℕ) (xs x : List Float) (solver : Float) (lent : ℕ) : Type 0 where
   pub network : Clear (networkFault ws xs)
   pub output : Clear (faultOutput ws xs x solver lent)
+  pub point : Clear (faultPoint ws xs x solver)
+  pub swing : Clear (faultSwing ws xs x solver)
+
+-- the same for `residuals`, whose list has `lent` numbers
+pub record ReportCleared (ws : List ℕ) (xs x : List Float) (solver : Float) (lent : ℕ) : Type 0 where
+  pub network : Clear (networkFault ws xs)
+  pub report : Clear (faultReport ws xs x solver lent)
   pub point : Clear (faultPoint ws xs x solver)
   pub swing : Clear (faultSwing ws xs x solver)
 

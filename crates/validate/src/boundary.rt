@@ -1,15 +1,31 @@
 // The check across the C boundary: each function returns one number of the answer, and leaves the output list as `check` does.
 use crate::primal::check;
+use crate::report::residuals;
 use base::Fault;
+use factor::network_fault;
+use network::sizes_of;
 ghost use mathlib.Core.Path.{_≡_};
 ghost use lib.ListN.{length};
 ghost use Rattle.base.specs.Fault.{fault, packed};
-ghost use Rattle.validate.specs.Check.{checked, outputsAfter};
+ghost use Rattle.validate.specs.Check.{outputsNeeded, checked, outputsAfter, residualsFault, reportAfter};
 ghost use Rattle.validate.specs.Verdict.{residualAt};
+
+// The length of the outputs, from the network alone: a host sizes its list by it before it lends it. 0 where the network is refused.
+#[no_mangle]
+pub extern "C" fn fervoulk_outputs(words: &[u32], numbers: &[f64]) -> usize
+    ensures { λ r. ⌜ r ≡ outputsNeeded (now (words .entry)) (now (numbers .entry)) ⌝ }
+{
+    let refusal = network_fault(words, numbers);
+    if refusal.number != 0 {
+        return 0;
+    }
+    let sizes = sizes_of(words);
+    2 * sizes.buses + 4 * sizes.branches
+}
 
 // The refusal's number times 2 to the power 32 plus its place.
 #[no_mangle]
-pub extern "C" fn validate_check(
+pub extern "C" fn fervoulk_check(
     words: &[u32],
     numbers: &[f64],
     point: &[f64],
@@ -27,7 +43,7 @@ pub extern "C" fn validate_check(
 }
 
 #[no_mangle]
-pub extern "C" fn validate_objective(
+pub extern "C" fn fervoulk_objective(
     words: &[u32],
     numbers: &[f64],
     point: &[f64],
@@ -49,7 +65,7 @@ fn residual(residuals: [f64; 8], i: usize) -> f64
 
 // Residual i, from 0; an index past 7 answers 0.
 #[no_mangle]
-pub extern "C" fn validate_residual(
+pub extern "C" fn fervoulk_residual(
     words: &[u32],
     numbers: &[f64],
     point: &[f64],
@@ -63,4 +79,19 @@ pub extern "C" fn validate_residual(
     let answer = check(words, numbers, point, solver, outputs);
     let residuals = answer.residuals;
     residual(residuals, i)
+}
+
+// All eight residuals and the objective by one run: number and place as `residuals` answers, and the list as it leaves it.
+#[no_mangle]
+pub extern "C" fn fervoulk_residuals(
+    words: &[u32],
+    numbers: &[f64],
+    point: &[f64],
+    solver: f64,
+    report: &mut [f64],
+) -> u64
+    ensures { λ r. ⌜ (r ≡ packed (residualsFault (now (words .entry)) (now (numbers .entry)) (now (point .entry)) solver (length (now (report .entry)))))
+        × (now (report .exit) ≡ reportAfter (now (words .entry)) (now (numbers .entry)) (now (point .entry)) solver (now (report .entry))) ⌝ }
+{
+    base::packed(residuals(words, numbers, point, solver, report))
 }

@@ -2,12 +2,16 @@
 mod boundary;
 mod point;
 mod primal;
+mod report;
 mod tolerance;
 
-pub use boundary::validate_check;
-pub use boundary::validate_objective;
-pub use boundary::validate_residual;
+pub use boundary::fervoulk_check;
+pub use boundary::fervoulk_objective;
+pub use boundary::fervoulk_outputs;
+pub use boundary::fervoulk_residual;
+pub use boundary::fervoulk_residuals;
 pub use primal::check;
+pub use report::residuals;
 
 pub struct Checked {
     pub number: u32,

@@ -2,7 +2,7 @@
 
 mod c {
     extern "C" {
-        pub fn compile_model(
+        pub fn fervoulk_compile(
             words: *const u32,
             words_length: usize,
             numbers: *const f64,
@@ -22,12 +22,12 @@ mod c {
             row_upper: *mut f64,
             row_upper_length: usize,
         ) -> u64;
-        pub fn compile_words(words: *const u32, words_length: usize, numbers: *const f64, numbers_length: usize) -> usize;
-        pub fn compile_constants(words: *const u32, words_length: usize, numbers: *const f64, numbers_length: usize) -> usize;
-        pub fn compile_columns(words: *const u32, words_length: usize, numbers: *const f64, numbers_length: usize) -> usize;
-        pub fn compile_rows(words: *const u32, words_length: usize, numbers: *const f64, numbers_length: usize) -> usize;
-        pub fn compile_shared(words: *const u32, words_length: usize, numbers: *const f64, numbers_length: usize) -> usize;
-        pub fn compile_objective(words: *const u32, words_length: usize, numbers: *const f64, numbers_length: usize) -> f64;
+        pub fn fervoulk_words(words: *const u32, words_length: usize, numbers: *const f64, numbers_length: usize) -> usize;
+        pub fn fervoulk_constants(words: *const u32, words_length: usize, numbers: *const f64, numbers_length: usize) -> usize;
+        pub fn fervoulk_columns(words: *const u32, words_length: usize, numbers: *const f64, numbers_length: usize) -> usize;
+        pub fn fervoulk_rows(words: *const u32, words_length: usize, numbers: *const f64, numbers_length: usize) -> usize;
+        pub fn fervoulk_shared(words: *const u32, words_length: usize, numbers: *const f64, numbers_length: usize) -> usize;
+        pub fn fervoulk_objective_constant(words: *const u32, words_length: usize, numbers: *const f64, numbers_length: usize) -> f64;
     }
 }
 
@@ -42,11 +42,11 @@ pub struct Lists<'a> {
     pub row_upper: &'a mut [f64],
 }
 
-pub fn compile_model(words: &[u32], numbers: &[f64], lists: Lists<'_>) -> u64 {
+pub fn fervoulk_compile(words: &[u32], numbers: &[f64], lists: Lists<'_>) -> u64 {
     let Lists { words: model_words, constants, column_lower, column_upper, start, row_lower, row_upper } = lists;
     // SAFETY: each pair is a slice; the seven written ones are distinct `&mut` slices.
     unsafe {
-        c::compile_model(
+        c::fervoulk_compile(
             words.as_ptr(),
             words.len(),
             numbers.as_ptr(),
@@ -69,32 +69,32 @@ pub fn compile_model(words: &[u32], numbers: &[f64], lists: Lists<'_>) -> u64 {
     }
 }
 
-pub fn compile_words(words: &[u32], numbers: &[f64]) -> usize {
+pub fn fervoulk_words(words: &[u32], numbers: &[f64]) -> usize {
     // SAFETY: each pair is a slice.
-    unsafe { c::compile_words(words.as_ptr(), words.len(), numbers.as_ptr(), numbers.len()) }
+    unsafe { c::fervoulk_words(words.as_ptr(), words.len(), numbers.as_ptr(), numbers.len()) }
 }
 
-pub fn compile_constants(words: &[u32], numbers: &[f64]) -> usize {
+pub fn fervoulk_constants(words: &[u32], numbers: &[f64]) -> usize {
     // SAFETY: each pair is a slice.
-    unsafe { c::compile_constants(words.as_ptr(), words.len(), numbers.as_ptr(), numbers.len()) }
+    unsafe { c::fervoulk_constants(words.as_ptr(), words.len(), numbers.as_ptr(), numbers.len()) }
 }
 
-pub fn compile_columns(words: &[u32], numbers: &[f64]) -> usize {
+pub fn fervoulk_columns(words: &[u32], numbers: &[f64]) -> usize {
     // SAFETY: each pair is a slice.
-    unsafe { c::compile_columns(words.as_ptr(), words.len(), numbers.as_ptr(), numbers.len()) }
+    unsafe { c::fervoulk_columns(words.as_ptr(), words.len(), numbers.as_ptr(), numbers.len()) }
 }
 
-pub fn compile_rows(words: &[u32], numbers: &[f64]) -> usize {
+pub fn fervoulk_rows(words: &[u32], numbers: &[f64]) -> usize {
     // SAFETY: each pair is a slice.
-    unsafe { c::compile_rows(words.as_ptr(), words.len(), numbers.as_ptr(), numbers.len()) }
+    unsafe { c::fervoulk_rows(words.as_ptr(), words.len(), numbers.as_ptr(), numbers.len()) }
 }
 
-pub fn compile_shared(words: &[u32], numbers: &[f64]) -> usize {
+pub fn fervoulk_shared(words: &[u32], numbers: &[f64]) -> usize {
     // SAFETY: each pair is a slice.
-    unsafe { c::compile_shared(words.as_ptr(), words.len(), numbers.as_ptr(), numbers.len()) }
+    unsafe { c::fervoulk_shared(words.as_ptr(), words.len(), numbers.as_ptr(), numbers.len()) }
 }
 
-pub fn compile_objective(words: &[u32], numbers: &[f64]) -> f64 {
+pub fn fervoulk_objective_constant(words: &[u32], numbers: &[f64]) -> f64 {
     // SAFETY: each pair is a slice.
-    unsafe { c::compile_objective(words.as_ptr(), words.len(), numbers.as_ptr(), numbers.len()) }
+    unsafe { c::fervoulk_objective_constant(words.as_ptr(), words.len(), numbers.as_ptr(), numbers.len()) }
 }

@@ -2,10 +2,10 @@
 
 mod c {
     extern "C" {
-        pub fn nl_find_row(words: *const u32, words_length: usize, constants: usize, columns: usize, r: usize) -> u64;
-        pub fn nl_row_start(words: *const u32, words_length: usize, constants: usize, columns: usize, r: usize) -> usize;
-        pub fn nl_row_length(words: *const u32, words_length: usize, constants: usize, columns: usize, r: usize) -> usize;
-        pub fn nl_same(
+        pub fn fervoulk_find_row(words: *const u32, words_length: usize, constants: usize, columns: usize, r: usize) -> u64;
+        pub fn fervoulk_row_start(words: *const u32, words_length: usize, constants: usize, columns: usize, r: usize) -> usize;
+        pub fn fervoulk_row_length(words: *const u32, words_length: usize, constants: usize, columns: usize, r: usize) -> usize;
+        pub fn fervoulk_same(
             words_a: *const u32,
             words_a_length: usize,
             constants_a: *const f64,
@@ -18,25 +18,25 @@ mod c {
     }
 }
 
-pub fn nl_find_row(words: &[u32], constants: usize, columns: usize, r: usize) -> u64 {
+pub fn fervoulk_find_row(words: &[u32], constants: usize, columns: usize, r: usize) -> u64 {
     // SAFETY: the pair is a slice.
-    unsafe { c::nl_find_row(words.as_ptr(), words.len(), constants, columns, r) }
+    unsafe { c::fervoulk_find_row(words.as_ptr(), words.len(), constants, columns, r) }
 }
 
-pub fn nl_row_start(words: &[u32], constants: usize, columns: usize, r: usize) -> usize {
+pub fn fervoulk_row_start(words: &[u32], constants: usize, columns: usize, r: usize) -> usize {
     // SAFETY: the pair is a slice.
-    unsafe { c::nl_row_start(words.as_ptr(), words.len(), constants, columns, r) }
+    unsafe { c::fervoulk_row_start(words.as_ptr(), words.len(), constants, columns, r) }
 }
 
-pub fn nl_row_length(words: &[u32], constants: usize, columns: usize, r: usize) -> usize {
+pub fn fervoulk_row_length(words: &[u32], constants: usize, columns: usize, r: usize) -> usize {
     // SAFETY: the pair is a slice.
-    unsafe { c::nl_row_length(words.as_ptr(), words.len(), constants, columns, r) }
+    unsafe { c::fervoulk_row_length(words.as_ptr(), words.len(), constants, columns, r) }
 }
 
-pub fn nl_same(words_a: &[u32], constants_a: &[f64], words_b: &[u32], constants_b: &[f64]) -> u32 {
+pub fn fervoulk_same(words_a: &[u32], constants_a: &[f64], words_b: &[u32], constants_b: &[f64]) -> u32 {
     // SAFETY: each pair is a slice.
     unsafe {
-        c::nl_same(
+        c::fervoulk_same(
             words_a.as_ptr(),
             words_a.len(),
             constants_a.as_ptr(),

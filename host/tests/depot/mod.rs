@@ -26,5 +26,5 @@ pub fn crossed() -> [f64; 17] {
 }
 
 pub fn refusal(kind: Kind, place: u32) -> Refusal {
-    Refusal { kind, place }
+    Refusal::new(kind, place)
 }

@@ -33,14 +33,14 @@ print-requires c κs = search needs
 print-requires-2 : tie.Need-print-requires-2 Inv-loop μ-loop
 print-requires-2 c κs = search needs
 
-nl-row-start-requires : tie.Need-nl-row-start-requires Inv-loop μ-loop
-nl-row-start-requires c κs = search needs
+fervoulk-row-start-requires : tie.Need-fervoulk-row-start-requires Inv-loop μ-loop
+fervoulk-row-start-requires c κs = search needs
 
 print-requires-3 : tie.Need-print-requires-3 Inv-loop μ-loop
 print-requires-3 c κs = search needs
 
-nl-row-length-requires : tie.Need-nl-row-length-requires Inv-loop μ-loop
-nl-row-length-requires c κs = search needs
+fervoulk-row-length-requires : tie.Need-fervoulk-row-length-requires Inv-loop μ-loop
+fervoulk-row-length-requires c κs = search needs
 
 print-requires-4 : tie.Need-print-requires-4 Inv-loop μ-loop
 print-requires-4 c κs = search needs
@@ -76,9 +76,9 @@ show-rows-spec =
     cast-print
     print-requires
     print-requires-2
-    nl-row-start-requires
+    fervoulk-row-start-requires
     print-requires-3
-    nl-row-length-requires
+    fervoulk-row-length-requires
     print-requires-4
     slice-aggregate-write-all
     write-all-requires
