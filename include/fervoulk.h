@@ -17,7 +17,8 @@
  *
  * Beyond that any words, numbers and lengths may be handed in. Every call ends and answers, keeps no pointer and no state, and may run in
  * several threads at once. A list holds, after the call, either the finished result in its front part with the rest as it was, or,
- * after a refusal, exactly what it held before. The check takes some 34 KiB of stack, compile 6 KiB, the finder less than 4 KiB.
+ * after a refusal, exactly what it held before. The check takes some 34 KiB of stack and fervoulk_residuals about as much, compile 6 KiB, the
+ * finder less than 4 KiB.
  */
 #ifndef FERVOULK_H
 #define FERVOULK_H

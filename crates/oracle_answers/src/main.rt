@@ -1,4 +1,4 @@
-// Replays the original Rust's answers of data/answers (tests/differential/store.rs says how a record is laid out and how they were
+// Replays the original Rust's answers of data/answers (tests/differential/src/bin/store.rs says how a record is laid out and how they were
 // chosen) through compile and the check, and prints how many there are and for how many the answer or a list is another.
 use compile::Compiled;
 use libc::STDOUT_FILENO;

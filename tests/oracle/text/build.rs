@@ -6,6 +6,8 @@ fn main() {
     println!("cargo:rerun-if-changed=build.rs");
     println!("cargo:rerun-if-env-changed=ORACLE_TARGET");
     println!("cargo:rustc-check-cfg=cfg(platform)");
+    // a feature that the original text asks for
+    println!("cargo:rustc-check-cfg=cfg(feature, values(\"powerio-012\"))");
     let Ok(target) = std::env::var("ORACLE_TARGET") else {
         panic!("no ORACLE_TARGET, the folder of the cut text and of fdlibm: run tests/oracle/run, which makes both");
     };

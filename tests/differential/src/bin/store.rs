@@ -15,7 +15,7 @@
 //! Number lists are lent full of 5. No record lies across a multiple of 65,536 bytes: zeros fill the rest.
 
 use differential::cases::{self, Case};
-use differential::{networks, random, rules};
+use differential::{random, rules};
 use oracle::{Answer, Network, Refusal};
 use oracle_text::File;
 use std::collections::BTreeSet;
