@@ -1,14 +1,15 @@
 -- Document 01, "The model file": the rows, each with its lower and upper, by 000's terms.
 use Prim.Native.Nat.{ℕ}
-use mathlib.Core.Bool.{Bool, cond, _&&_}
+use mathlib.Core.Bool.{cond}
 use mathlib.Core.List.{List, [], _∷_, _++_, map}
 use lib.Dec.{eqb}
-use lib.Ieee.{Float, neg, lt}
+use lib.Ieee.{Float, neg}
 use Rattle.base.specs.Loop.{table, each, keep}
 use Rattle.float.specs.Number.{_⊗_, zero64, one64}
 use Rattle.nl.specs.Expr.{Expr, column}
 use Rattle.network.specs.Bounds.{huge64}
-use Rattle.network.specs.Network.{buses, generators, branches, references, busOf, from, to, angled, limited, referred, curveAt, segments, curved, vaColumn, pgColumn, qgColumn, epigraphColumn, pD, qD, gS, bS, angleMin, angleMax, sMax}
+pub use Rattle.network.specs.Network.{rated}
+use Rattle.network.specs.Network.{buses, generators, branches, references, busOf, from, to, angled, referred, curveAt, segments, curved, vaColumn, pgColumn, qgColumn, epigraphColumn, pD, qD, gS, bS, angleMin, angleMax, sMax}
 use Rattle.acopf.specs.Curve.{slope, intercept}
 use Rattle.acopf.specs.Build.{literal, add, subtract, square, scaled, sum}
 use Rattle.acopf.specs.Parts.{vmSquared, pFrom, qFrom, pTo, qTo, angleDifference}
@@ -50,16 +51,12 @@ module _ (ws : List ℕ) (xs : List Float) where
   abbrev pub angleRow : ℕ → Row
   angleRow b = between (angleMin ws xs b) (angleMax ws xs b) (angleDifference ws b)
 
-  -- an active limit with s_max above 0
-  abbrev pub rated : ℕ → Bool
-  rated b = limited ws b && lt zero64 (sMax ws xs b)
-
   -- s_max squared less p squared plus q squared
   abbrev pub thermalRow : ℕ → Expr → Expr → Row
   thermalRow b p q = margin (subtract (literal (sMax ws xs b ⊗ sMax ws xs b)) (add (square p) (square q)))
 
   unfoldable pub thermalRows : ℕ → List Row
-  thermalRows b = keep (rated b) (thermalRow b (pFrom ws b) (qFrom ws b)) ++ keep (rated b) (thermalRow b (pTo ws b) (qTo ws b))
+  thermalRows b = keep (rated ws xs b) (thermalRow b (pFrom ws b) (qFrom ws b)) ++ keep (rated ws xs b) (thermalRow b (pTo ws b) (qTo ws b))
 
   -- the epigraph column less slope times pg plus intercept
   unfoldable pub segmentRow : ℕ → ℕ → Row

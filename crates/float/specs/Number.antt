@@ -3,9 +3,9 @@ use Prim.Native.Nat.{ℕ, _+_, _*_, _/_, _^_, _<_}
 use mathlib.Core.Bool.{Bool, true, false, cond}
 use mathlib.Core.Path.{_≡_}
 use mathlib.Core.List.{List}
-use lib.Dec.{ltb}
+use lib.Dec.{T, ltb}
 use lib.ListN.{length, getD}
-use lib.Ieee.{Float, nan, inf, fin, binary64, toBits, ofBits, lt, ne}
+use lib.Ieee.{Float, nan, inf, fin, binary64, toBits, ofBits, fits, lt, ne}
 use lib.Ieee as Ieee
 
 infixl 68 _⊕_ _⊖_
@@ -46,6 +46,10 @@ isFinite (fin s m e) = true
 
 abbrev pub AllFinite : List Float → Type 0
 AllFinite l = (j : ℕ) → j < length l → isFinite (getD l j nan) ≡ true
+
+-- every number of the list is a double. A lent list of f64 has this by its type
+abbrev pub Doubles : List Float → Type 0
+Doubles l = (j : ℕ) → T (fits binary64 (getD l j nan))
 
 -- the sign is dropped
 unfoldable pub absolute : Float → Float

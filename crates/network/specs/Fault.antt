@@ -9,6 +9,7 @@ use Rattle.base.specs.Word.{kindOf}
 use Rattle.base.specs.declared.Fault.{Fault}
 use Rattle.base.specs.Fault.{fault, unless, orElse, first}
 use Rattle.float.specs.Number.{_⊗_, zero64, isFinite}
+use Rattle.network.specs.Limits.{mostBuses, mostGenerators, mostBranches, mostReferences, mostPoints}
 use Rattle.network.specs.Word.{loadRight}
 use Rattle.network.specs.Network.{kindBefore, buses, generators, branches, references, busPlace, generatorPlace, branchPlace, referencePlace, points, busAt, generatorAt, curveAt, branchAt, segments, needed, number, power, vmBounded, capable, angled, limited, vmColumn, pgColumn, qgColumn, vmMin, vmMax, pMin, pMax, qMin, qMax, shift, angleMin, angleMax, sMax}
 use Rattle.network.specs.Bounds.{boundsRight, angleRight}
@@ -29,11 +30,11 @@ module _ (ws : List ℕ) where
   unfoldable pub faultSize : Fault
   faultSize =
       orElse (unless (leb 1 (buses ws)) (fault 2 0))
-      (orElse (unless (leb (buses ws) 256) (fault 2 (busPlace ws 256)))
-      (orElse (unless (leb (generators ws) 256) (fault 2 (generatorPlace ws 256)))
-      (orElse (unless (leb (branches ws) 512) (fault 2 (branchPlace ws 512)))
-      (orElse (unless (leb (references ws) 256) (fault 2 (referencePlace ws 256)))
-      (first (generators ws) (λ g. unless (leb (points ws g) 16) (fault 2 (generatorPlace ws g))))))))
+      (orElse (unless (leb (buses ws) mostBuses) (fault 2 (busPlace ws mostBuses)))
+      (orElse (unless (leb (generators ws) mostGenerators) (fault 2 (generatorPlace ws mostGenerators)))
+      (orElse (unless (leb (branches ws) mostBranches) (fault 2 (branchPlace ws mostBranches)))
+      (orElse (unless (leb (references ws) mostReferences) (fault 2 (referencePlace ws mostReferences)))
+      (first (generators ws) (λ g. unless (leb (points ws g) mostPoints) (fault 2 (generatorPlace ws g))))))))
 
 -- 4 blank: `count` numbers from `at` on are required
 unfoldable pub blanks : List Float → ℕ → ℕ → Fault

@@ -5,9 +5,11 @@ use mathlib.Core.Bool.{Bool, true, false, not, _&&_}
 use mathlib.Core.List.{List}
 use lib.ListN.{length, getD}
 use lib.Dec.{eqb}
-use lib.Ieee.{Float, nan}
+use lib.Ieee.{Float, nan, lt}
 use Rattle.base.specs.Word.{kindOf}
 use Rattle.base.specs.Loop.{loop, tally}
+use Rattle.float.specs.Number.{zero64}
+use Rattle.network.specs.Limits.{busNumbers, generatorNumbers, pointNumbers, branchNumbers}
 use Rattle.network.specs.Word.{headerCosts, busBounded, generatorBus, generatorBounded, generatorPoints, branchFrom, branchTo, branchAngled, branchLimited, referenceBus}
 
 module _ (ws : List ℕ) where
@@ -72,18 +74,18 @@ module _ (ws : List ℕ) where
   abbrev pub referred : ℕ → ℕ
   referred r = referenceBus (getD ws (referencePlace r) 0)
 
-  -- where the numbers of bus i, generator g, branch b start: 8 a bus, 9 and 2 a point a generator, 11 a branch
+  -- where the numbers of bus i, generator g, branch b start: buses, generators each with its curve, branches
   abbrev pub busAt : ℕ → ℕ
-  busAt i = 8 * i
+  busAt i = busNumbers * i
 
   unfoldable pub generatorAt : ℕ → ℕ
-  generatorAt g = loop (λ at j. at + 9 + 2 * points j) (8 * buses) g
+  generatorAt g = loop (λ at j. at + generatorNumbers + pointNumbers * points j) (busNumbers * buses) g
 
   abbrev pub curveAt : ℕ → ℕ
-  curveAt g = generatorAt g + 9
+  curveAt g = generatorAt g + generatorNumbers
 
   unfoldable pub branchAt : ℕ → ℕ
-  branchAt b = generatorAt generators + 11 * b
+  branchAt b = generatorAt generators + branchNumbers * b
 
   -- the needed length of the number list
   unfoldable pub needed : ℕ
@@ -125,10 +127,10 @@ number xs j = getD xs j nan
 
 -- point j of a curve whose numbers start at `at`: power, value
 abbrev pub power : List Float → ℕ → ℕ → Float
-power xs at j = number xs (at + 2 * j)
+power xs at j = number xs (at + pointNumbers * j)
 
 abbrev pub value : List Float → ℕ → ℕ → Float
-value xs at j = number xs (at + 2 * j + 1)
+value xs at j = number xs (at + pointNumbers * j + 1)
 
 -- the numbers by their names, "per bus p_d, q_d, g_s, b_s, vm_min, vm_max, angle start, vm start; per generator .."
 module _ (ws : List ℕ) (xs : List Float) where
@@ -218,3 +220,7 @@ module _ (ws : List ℕ) (xs : List Float) where
 
   abbrev pub sMax : ℕ → Float
   sMax b = number xs (branchAt ws b + 10)
+
+  -- an active thermal limit with s_max above 0 gives rows
+  abbrev pub rated : ℕ → Bool
+  rated b = limited ws b && lt zero64 (sMax b)

@@ -1,5 +1,5 @@
 // Refusal 4, blank: the first required number that is not finite.
-use crate::limits::record_end;
+use crate::layout::record_end;
 use crate::word::generator_points;
 use base::Fault;
 ghost use mathlib.Core.Path.{_≡_};

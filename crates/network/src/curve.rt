@@ -1,5 +1,5 @@
 // Refusal 5, curve: the first power that is not above the one before.
-use crate::limits::record_end;
+use crate::layout::record_end;
 use crate::word::generator_points;
 use base::Fault;
 ghost use mathlib.Core.Path.{_≡_};

@@ -1,7 +1,7 @@
 // Refusals 6, shift, and 7, bounds.
 use crate::bounds::angle_right;
 use crate::bounds::validate_active;
-use crate::limits::record_end;
+use crate::layout::record_end;
 use crate::word::bus_bounded;
 use crate::word::generator_bounded;
 use crate::word::generator_points;

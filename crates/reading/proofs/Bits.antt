@@ -12,7 +12,7 @@ use lib.Ieee.Bits.{toBits-lt, ofBits-fits, toBits-ofBits}
 use Rattle.base.specs.Fault.{clear}
 use Rattle.base.specs.Loop.{table, each, keep}
 use Rattle.base.proofs.Loops.{AllFrom, Every, all-append, every-nil, every-cons, every-append, every-table, every-each, every-keep, every-cond, all-map}
-use Rattle.float.specs.Number.{_⊗_, zero64, half64, one64, isFinite, AllFinite}
+use Rattle.float.specs.Number.{_⊗_, zero64, half64, one64, isFinite, AllFinite, Doubles}
 use Rattle.nl.specs.Expr.{Expr, Terms, none, more, column, shared, over, constants, constantsOf}
 use Rattle.nl.specs.File.{modelConstants}
 use Rattle.network.specs.Network.{buses, generators, branches, references, costs, busOf, from, to, angled, segments, curved, vmColumn, pgColumn, epigraphColumn, costQ, costC}
@@ -24,7 +24,6 @@ use Rattle.acopf.specs.Rows.{balanceRow, pBalance, qBalance, rated, thermalRows
 use Rattle.acopf.specs.Model.{costTerm, objective, model}
 use Rattle.acopf.specs.Factor.{constants64, networkFault}
 use Rattle.acopf.proofs.Right.{constants-finite}
-use Rattle.reading.specs.Written.{Doubles}
 
 -- 64 bits
 abbrev pub Pattern : ℕ → ℕ → Type 0

@@ -21,7 +21,8 @@ use Rattle.acopf.proofs.Right.{tables-clear}
 use Rattle.compile.specs.Compile.{compiled}
 use Rattle.compile.proofs.Counts.{counted, compiled-exactly, fronts}
 use Rattle.reading.specs.ReadsAs.{ReadsAs}
-use Rattle.reading.specs.Written.{frontWords, frontBits, Doubles}
+use Rattle.float.specs.Number.{Doubles}
+use Rattle.reading.specs.Written.{frontWords, frontBits}
 use Rattle.reading.proofs.Stands.{stands}
 use Rattle.reading.proofs.Read.{reads-as}
 use Rattle.reading.proofs.Bits.{Pattern, patterns, bits-back}

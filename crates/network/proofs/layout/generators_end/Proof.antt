@@ -11,8 +11,8 @@ use Rattle.network.specs.Network.{buses, generators, generatorAt}
 use Rattle.network.proofs.Places.{words-length, limits}
 use Rattle.network.proofs.Good.{generator-zero, generator-high}
 use Rattle.network.proofs.Steps.{generator-turn, generator-room}
-use Rattle.network.proofs.limits.generators_end.Statement.{statement}
-use Rattle.network.proofs.limits.generators_end.Tie as tie
+use Rattle.network.proofs.layout.generators_end.Statement.{statement}
+use Rattle.network.proofs.layout.generators_end.Tie as tie
 
 -- 8 · 256 + 41 · 256
 room : (ws : List ℕ) (n k g at p : ℕ) → n ≡ buses ws → k ≡ generators ws → Clear (faultSize ws) → at ≡ generatorAt ws g

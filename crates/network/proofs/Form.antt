@@ -1,0 +1,137 @@
+-- Refusals 1 and 2 leave words whose layout is right, and 3 a list of numbers that fits it; a cursor's step; the records.
+use mathlib.Core.Path.{_≡_, refl, sym, ap, _∙_}
+use mathlib.Core.Bool.{Bool, not, _&&_}
+use mathlib.Core.List.{List}
+use Prim.Native.Nat.{ℕ, _+_, _*_, _<_, _≤_}
+use native.Mathlib.Omega.{arith}
+use lib.Dec.{eqb}
+use lib.ListN.{length, getD}
+use lib.Ieee.{Float}
+use Rattle.base.proofs.Firsts.{Clear, or-left, or-right}
+use Rattle.float.specs.Number.{Doubles}
+use Rattle.network.specs.Fault.{faultWords, faultSize, faultCount, faultTables}
+use Rattle.network.specs.Limits.{generatorNumbers, pointNumbers, branchNumbers, mostPoints, mostNumbers}
+use Rattle.network.specs.Network.{generators, generatorPlace, branchPlace, points, branchAt, needed}
+use Rattle.network.specs.Word.{generatorBus, generatorBounded, generatorPoints, branchFrom, branchTo, branchAngled, branchLimited}
+use Rattle.network.specs.declared.layout.Layout.{Layout}
+use Rattle.network.specs.declared.records.Generator.{Generator}
+use Rattle.network.specs.declared.records.Branch.{Branch}
+use Rattle.network.specs.declared.layout.Cursor.{Cursor}
+use Rattle.network.specs.Layout.{layoutOf, generatorAtPlace, branchAtPlace, generatorRecord, branchRecord, LaidWords, Laid, Standing, GeneratorRead, BranchRead}
+use Rattle.network.proofs.Places.{words-length, bus-of-generator, no-single-point, from-bus, to-bus, referred-bus, limits}
+use Rattle.network.proofs.Good.{Good, good-shape, good, generator-zero, generator-next, generator-start, generator-high, generator-fits}
+
+module _ (ws : List ℕ) where
+  laid-words-of : Clear (faultWords ws) → Clear (faultSize ws) → LaidWords ws (layoutOf ws)
+  laid-words-of w s =
+      let l = limits ws s in
+      record {
+        is = refl;
+        some-bus = l .some-bus;
+        few-buses = l .few-buses;
+        few-generators = l .few-generators;
+        few-branches = l .few-branches;
+        few-references = l .few-references;
+        few-points = l .few-points;
+        no-single = no-single-point ws w;
+        generator-words = refl;
+        branch-words = refl;
+        reference-words = refl;
+        count = words-length ws w;
+        generator-bus = bus-of-generator ws w;
+        branch-from = from-bus ws w;
+        branch-to = to-bus ws w;
+        reference-bus = referred-bus ws w;
+        generator-numbers = refl;
+        bus-ends = generator-start ws (generators ws);
+        generator-ends = λ g h. generator-fits ws g (generators ws) h;
+        few-needed = omega (arith, generator-high ws l (generators ws) (omega arith), l .few-buses, l .few-generators, l .few-branches);
+      }
+
+  pub laid-words : Clear (faultWords ws) → Clear (faultSize ws) → {l : Layout} → l ≡ layoutOf ws → LaidWords ws l
+  laid-words w s e = rw e (laid-words-of w s)
+
+module _ (ws : List ℕ) (xs : List Float) where
+  laid-good : LaidWords ws (layoutOf ws) → Good ws xs → Doubles xs → Laid ws xs (layoutOf ws)
+  unfolding needed branchAt
+  laid-good W G D = record {
+    words = W;
+    numbers = G .numbers;
+    few-numbers = omega (arith, G .numbers, G .few-numbers);
+    bus-fits = G .bus-fits;
+    generator-fits = G .generator-fits;
+    branch-fits = G .branch-fits;
+    doubles = D;
+  }
+
+  -- the network's form is right where 1, 2 and 3 are clear
+  pub laid-form : Clear (faultWords ws) → Clear (faultSize ws) → Clear (faultCount ws xs) → Doubles xs → {l : Layout} → l ≡ layoutOf ws → Laid ws xs l
+  laid-form w s c D e = rw e (laid-good (laid-words-of ws w s) (good-shape ws xs w s c) D)
+
+  pub laid : Clear (faultTables ws xs) → Doubles xs → {l : Layout} → l ≡ layoutOf ws → Laid ws xs l
+  unfolding faultTables
+  laid h D e = rw e (laid-good (laid-words-of ws (or-left _ _ h) (or-left _ _ (or-right _ _ h))) (good ws xs h) D)
+
+-- ---- places, in the code's terms
+
+module _ {ws : List ℕ} {l : Layout} (L : LaidWords ws l) where
+  pub branch-start : (b : ℕ) → l .«branch_numbers» + branchNumbers * b ≡ branchAt ws b
+  unfolding branchAt
+  branch-start b = rw (L .is)
+
+  pub first-standing : {c : Cursor} → c .index ≡ 0 → c .at ≡ l .«generator_numbers» → Standing ws l c
+  first-standing e a = record { within = omega arith; at = a ∙ rw (L .is, e) (sym (generator-zero ws)) }
+
+  -- the word of generator g, of branch b
+  pub generator-word : (g : ℕ) → l .«generator_words» + g ≡ generatorPlace ws g
+  generator-word g = rw (L .is)
+
+  pub branch-word : (b : ℕ) → l .«branch_words» + b ≡ branchPlace ws b
+  branch-word b = rw (L .is)
+
+  -- the numbers of the generator at the cursor end before the branches'
+  pub cursor-ends : {c : Cursor} {p : ℕ} → Standing ws l c → c .index < l .generators → p ≡ generatorPoints (getD ws (l .«generator_words» + c .index) 0)
+      → (c .at + generatorNumbers + pointNumbers * p ≤ l .«branch_numbers») × (p ≤ mostPoints)
+  cursor-ends {c} {p} S h q =
+      let r : p ≡ points ws (c .index) = rw (generator-word (c .index)) at q in
+      rw (S .at, r) (L .generator-ends (c .index) h, L .few-points (c .index) h)
+
+  pub next-standing : {c d : Cursor} {p : ℕ} → Standing ws l c → c .index < l .generators → p ≡ generatorPoints (getD ws (l .«generator_words» + c .index) 0)
+      → d .index ≡ c .index + 1 → d .at ≡ c .at + generatorNumbers + pointNumbers * p → Standing ws l d
+  next-standing {c} {d} {p} S h q e a =
+      let r : p ≡ points ws (c .index) = rw (generator-word (c .index)) at q in
+      record {
+        within = omega arith;
+        at = a ∙ rw (e, generator-next ws (c .index), ← r, S .at);
+      }
+
+-- ---- records, in the code's terms
+
+module _ {ws : List ℕ} {xs : List Float} {l : Layout} (L : Laid ws xs l) where
+  -- the numbers of the generator at the cursor lie in the list
+  pub cursor-fits : {c : Cursor} {p : ℕ} → Standing ws l c → c .index < l .generators → p ≡ generatorPoints (getD ws (l .«generator_words» + c .index) 0)
+      → (c .at + generatorNumbers + pointNumbers * p ≤ length xs) × (p ≤ mostPoints)
+  cursor-fits {c} {p} S h q =
+      let r : p ≡ points ws (c .index) = rw (generator-word (L .words) (c .index)) at q in
+      rw (S .at, r) (L .generator-fits (c .index) h, L .words .few-points (c .index) h)
+
+  pub generator-read : {c : Cursor} {bus p : ℕ} {bounded on : Bool} {r : Generator} → Standing ws l c → c .index < l .generators
+      → bus ≡ generatorBus (getD ws (l .«generator_words» + c .index) 0) → bounded ≡ generatorBounded (getD ws (l .«generator_words» + c .index) 0)
+      → p ≡ generatorPoints (getD ws (l .«generator_words» + c .index) 0) → on ≡ (l .costs && not (eqb p 0))
+      → r ≡ generatorAtPlace xs (c .at) bus bounded p on → GeneratorRead ws xs l (c .index) r
+  generator-read {c} {bus} {p} {bounded} {on} {r} S h eb ed ep eo er =
+      let e : r ≡ generatorRecord ws xs (c .index) = er ∙ rw (eo, ep, ed, eb, generator-word (L .words) (c .index), S .at, ap (λ x. x .costs) (L .words .is)) in
+      rw e (record {
+        is = refl;
+        bus = L .words .generator-bus (c .index) h;
+        points = L .words .few-points (c .index) h;
+        curve = L .generator-fits (c .index) h;
+      })
+
+  pub branch-read : {b at f t : ℕ} {angled limited : Bool} {r : Branch} → b < l .branches → at ≡ branchAt ws b
+      → f ≡ branchFrom (getD ws (l .«branch_words» + b) 0) → t ≡ branchTo (getD ws (l .«branch_words» + b) 0)
+      → angled ≡ branchAngled (getD ws (l .«branch_words» + b) 0) → limited ≡ branchLimited (getD ws (l .«branch_words» + b) 0)
+      → r ≡ branchAtPlace xs at f t angled limited → BranchRead ws xs l b r
+  branch-read {b} {at} {f} {t} {angled} {limited} {r} h ea ef et ed el er =
+      let e : r ≡ branchRecord ws xs b = er ∙ rw (ea, ef, et, ed, el, branch-word (L .words) b) in
+      rw e (record { is = refl; from = L .words .branch-from b h; to = L .words .branch-to b h })
