@@ -5,6 +5,7 @@ use columns::write_column_lower;
 use columns::write_column_start;
 use columns::write_column_upper;
 use emit::write_model;
+use network::layout_of;
 use network::sizes_of;
 use rows::write_row_lower;
 use rows::write_row_upper;
@@ -49,7 +50,8 @@ pub fn compile(
         return answer;
     }
     let sizes = sizes_of(words);
-    write_model(words, numbers, sizes, model_words, constants);
+    let layout = layout_of(words);
+    write_model(words, numbers, layout, model_words, constants);
     write_column_lower(words, numbers, sizes, column_lower);
     write_column_upper(words, numbers, sizes, column_upper);
     write_column_start(words, numbers, sizes, start);

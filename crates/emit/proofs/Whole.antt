@@ -16,9 +16,10 @@ use Rattle.base.proofs.Loops.{bit, length-table, tally-le}
 use Rattle.nl.specs.Expr.{Expr, constants, constantsOf}
 use Rattle.nl.specs.File.{modelWords, modelConstants}
 use Rattle.network.specs.Fault.{faultTables}
-use Rattle.network.specs.Network.{buses, generators, branches, references, branchAt, needed, costs, curved, segments, angled, epigraphsBefore}
-use Rattle.network.specs.declared.sizes.Sizes.{Sizes}
-use Rattle.network.proofs.Good.{good, branch-first}
+use Rattle.network.specs.Network.{buses, generators, branches, references, costs, curved, segments, angled, epigraphsBefore}
+use Rattle.network.specs.declared.layout.Layout.{Layout}
+use Rattle.network.specs.Layout.{Laid, layoutOf}
+use Rattle.network.proofs.Good.{good}
 use Rattle.network.proofs.Right.{words-clear}
 use Rattle.acopf.specs.Build.{terms, sum}
 use Rattle.acopf.specs.Factor.{constants64}
@@ -27,13 +28,11 @@ use Rattle.acopf.specs.Parts.{branchParts, sharedParts, pFrom, qFrom, pTo, qTo}
 use Rattle.acopf.specs.Rows.{Row, rows, pBalance, qBalance, referenceRow, angleRow, rated, thermalRow, thermalRows, segmentRow, segmentRows}
 use Rattle.acopf.proofs.Counts.{count-terms}
 use Rattle.factor.specs.NonFinite.{segmentsBefore}
-use Rattle.factor.proofs.Chain.{start-at}
 use Rattle.factor.proofs.Sizes.{objectiveWords, count-of-words}
 use Rattle.factor.proofs.Steps.{segments-none, segments-next, epigraphs-le}
 use Rattle.emit.specs.declared.writer.Writer.{Writer}
 use Rattle.base.specs.Section.{Wrote}
 use Rattle.emit.specs.Tokens.{Token, fixed, numbered, begins, wordsFrom, numbersOf, begun, tokens, listTokens, partTokens, Written, Room}
-use Rattle.emit.specs.Sized.{Sized}
 use Rattle.emit.specs.Parts.{sharedTokens}
 use Rattle.emit.specs.Balance.{balanceOf, balancesOf}
 use Rattle.emit.specs.Rows.{angleTokens, thermalTokens, curveTokens}
@@ -41,7 +40,6 @@ use Rattle.emit.specs.Objective.{sumHead, costCount, objectiveTokens}
 use Rattle.emit.specs.Whole.{busRows, branchRows, rowTokens}
 use Rattle.base.proofs.Sections.{then}
 use Rattle.emit.proofs.Tokens.{map-append, numbers-append, words-append, length-words, parts-append, parts-each, parts-table, each-through, each-same, each-zero, table-each, list-terms, list-each, part-words-are, part-numbers-are, words-are, numbers-are}
-use Rattle.emit.proofs.Pieces.{branch-is}
 
 shared-are : (ws : List ℕ) (xs : List Float) → partTokens 10 (sharedParts ws xs) ≡ sharedTokens ws xs (buses ws) (branches ws)
 unfolding sharedParts sharedTokens
@@ -69,12 +67,9 @@ keep-rows : (t : Bool) (r s : Row) → rowParts (keep t r ++ keep t s) ≡ partT
 keep-rows true r s = refl
 keep-rows false r s = refl
 
-branch-from : (ws : List ℕ) (b : ℕ) → branchAt ws b ≡ branchAt ws 0 + 11 * b
-branch-from ws b = omega (arith, branch-is ws b, branch-is ws 0)
-
-thermal-are : (ws : List ℕ) (xs : List Float) (b : ℕ) → rowParts (thermalRows ws xs b) ≡ thermalTokens ws xs (1 + buses ws + generators ws) (buses ws) (branchAt ws 0) b
+thermal-are : (ws : List ℕ) (xs : List Float) (b : ℕ) → rowParts (thermalRows ws xs b) ≡ thermalTokens ws xs (buses ws) b
 unfolding thermalRows
-thermal-are ws xs b = rw (← branch-from ws b) (keep-rows (rated ws xs b) (thermalRow ws xs b (pFrom ws b) (qFrom ws b)) (thermalRow ws xs b (pTo ws b) (qTo ws b)))
+thermal-are ws xs b = keep-rows (rated ws xs b) (thermalRow ws xs b (pFrom ws b) (qFrom ws b)) (thermalRow ws xs b (pTo ws b) (qTo ws b))
 
 some-rows : (t : Bool) (n : ℕ) (f : ℕ → Row) → rowParts (cond t (table n f) []) ≡ each (cond t n 0) (λ i. rowParts (f i ∷ []))
 some-rows true n f = rows-table n f
@@ -153,10 +148,7 @@ module _ (es fs : List Expr) (o : Expr) where
 
 -- ---- all rows
 
-abbrev own : List ℕ → Sizes
-own ws = record { buses = buses ws; generators = generators ws; branches = branches ws; references = references ws }
-
-rows-are : (ws : List ℕ) (xs : List Float) → rowParts (rows ws xs) ++ (fixed (word 12 0) ∷ tokens (objective ws xs) ++ (fixed (word 13 0) ∷ [])) ≡ rowTokens ws xs (own ws) (branchAt ws 0)
+rows-are : (ws : List ℕ) (xs : List Float) → rowParts (rows ws xs) ++ (fixed (word 12 0) ∷ tokens (objective ws xs) ++ (fixed (word 13 0) ∷ [])) ≡ rowTokens ws xs (layoutOf ws)
 unfolding rows rowTokens busRows balancesOf branchRows
 rows-are ws xs =
     let f = table (buses ws) (pBalance ws xs) in
@@ -165,8 +157,8 @@ rows-are ws xs =
     let i = each (branches ws) (λ b. keep (angled ws b) (angleRow ws xs b)) in
     let j = each (branches ws) (thermalRows ws xs) in
     let l = each (generators ws) (segmentRows ws xs) in
-    let angles : rowParts i ≡ each (branches ws) (angleTokens ws (1 + buses ws + generators ws)) = rows-each (branches ws) _ ∙ each-same (branches ws) _ _ (λ b. keep-row (angled ws b) (angleRow ws xs b)) in
-    let thermals : rowParts j ≡ each (branches ws) (thermalTokens ws xs (1 + buses ws + generators ws) (buses ws) (branchAt ws 0)) = rows-each (branches ws) _ ∙ each-same (branches ws) _ _ (thermal-are ws xs) in
+    let angles : rowParts i ≡ each (branches ws) (angleTokens ws) = rows-each (branches ws) _ ∙ each-same (branches ws) _ _ (λ b. keep-row (angled ws b) (angleRow ws xs b)) in
+    let thermals : rowParts j ≡ each (branches ws) (thermalTokens ws xs (buses ws)) = rows-each (branches ws) _ ∙ each-same (branches ws) _ _ (thermal-are ws xs) in
     let curves : rowParts l ≡ each (generators ws) (curveTokens ws xs) = rows-each (generators ws) _ ∙ each-same (generators ws) _ _ (curves-are ws xs) in
     rw (
       rows-append ((((f ++ g) ++ h) ++ i) ++ j) l,
@@ -186,11 +178,11 @@ rows-are ws xs =
     )
     (simp append-assoc)
 
-words-whole : (ws : List ℕ) (xs : List Float) → fileWords ws xs ≡ wordsFrom 0 0 (sharedTokens ws xs (buses ws) (branches ws)) ++ wordsFrom (length (numbersOf (sharedTokens ws xs (buses ws) (branches ws)))) 0 (rowTokens ws xs (own ws) (branchAt ws 0))
+words-whole : (ws : List ℕ) (xs : List Float) → fileWords ws xs ≡ wordsFrom 0 0 (sharedTokens ws xs (buses ws) (branches ws)) ++ wordsFrom (length (numbersOf (sharedTokens ws xs (buses ws) (branches ws)))) 0 (rowTokens ws xs (layoutOf ws))
 unfolding fileWords model
 words-whole ws xs = words-of-model (sharedParts ws xs) (map (λ r. r .expression) (rows ws xs)) (objective ws xs) ∙ rw (shared-are ws xs, rows-are ws xs)
 
-numbers-whole : (ws : List ℕ) (xs : List Float) → constants64 ws xs ≡ numbersOf (sharedTokens ws xs (buses ws) (branches ws)) ++ numbersOf (rowTokens ws xs (own ws) (branchAt ws 0))
+numbers-whole : (ws : List ℕ) (xs : List Float) → constants64 ws xs ≡ numbersOf (sharedTokens ws xs (buses ws) (branches ws)) ++ numbersOf (rowTokens ws xs (layoutOf ws))
 unfolding constants64 model
 numbers-whole ws xs = numbers-of-model (sharedParts ws xs) (map (λ r. r .expression) (rows ws xs)) (objective ws xs) ∙ rw (shared-are ws xs, rows-are ws xs)
 
@@ -245,15 +237,15 @@ module _ (u v : List Token) (ws : List ℕ) (cs : List Float) (ew : ws ≡ words
   pub both-numbers : {w m w′ : List ℕ} {c n c′ : List Float} {q p : Writer} → Written w c begin u m n q → Written m n (again-from q) v w′ c′ p → Wrote c 0 cs c′ (p .constant)
   both-numbers a b = rw ec (then (a .numbers) (b .numbers))
 
-module _ {ws : List ℕ} {xs : List Float} {z : Sizes} {start : ℕ} (s : Sized ws xs z) (e : start ≡ branchAt ws 0) where
-  same-sizes : z ≡ own ws
-  same-sizes = λ i. record { buses = s .n-is i; generators = s .k-is i; branches = s .m-is i; references = s .r-is i }
+module _ {ws : List ℕ} {xs : List Float} {l : Layout} (L : Laid ws xs l) where
+  abbrev us : List Token
+  us = sharedTokens ws xs (l .buses) (l .branches)
 
-  pub words-at : fileWords ws xs ≡ wordsFrom 0 0 (sharedTokens ws xs (z .buses) (z .branches)) ++ wordsFrom (length (numbersOf (sharedTokens ws xs (z .buses) (z .branches)))) 0 (rowTokens ws xs z start)
-  words-at = rw (same-sizes, e) (words-whole ws xs)
+  pub words-at : fileWords ws xs ≡ wordsFrom 0 0 us ++ wordsFrom (length (numbersOf us)) 0 (rowTokens ws xs l)
+  words-at = rw (L .words .is) (words-whole ws xs)
 
-  pub numbers-at : constants64 ws xs ≡ numbersOf (sharedTokens ws xs (z .buses) (z .branches)) ++ numbersOf (rowTokens ws xs z start)
-  numbers-at = rw (same-sizes, e) (numbers-whole ws xs)
+  pub numbers-at : constants64 ws xs ≡ numbersOf us ++ numbersOf (rowTokens ws xs l)
+  numbers-at = rw (L .words .is) (numbers-whole ws xs)
 
 -- ---- a network that refusals 1 to 10 do not refuse
 
@@ -295,26 +287,3 @@ module _ (ws : List ℕ) (xs : List Float) (right : Clear (faultTables ws xs)) w
         few-segments ws (generators ws),
         few-objective ws,
       )
-
-  pub sized : (z : Sizes) → z .buses ≡ buses ws → z .generators ≡ generators ws → z .branches ≡ branches ws → z .references ≡ references ws → Sized ws xs z
-  unfolding needed
-  sized z n k m r =
-      let G = good ws xs right in
-      record {
-        n-is = n;
-        k-is = k;
-        m-is = m;
-        r-is = r;
-        few-buses = rw n (G .few-buses);
-        few-generators = rw k (G .few-generators);
-        few-branches = rw m (G .few-branches);
-        words = rw (n, k, m, r) (omega (arith, G .words));
-        numbers = rw m (omega (arith, G .numbers));
-        few-numbers = omega (arith, G .numbers, G .few-numbers);
-        generator-bus = rw (n, k) (G .generator-bus);
-        from-bus = rw (n, k, m) (G .branch-from);
-        to-bus = rw (n, k, m) (G .branch-to);
-      }
-
-  pub starts : (z : Sizes) → z .branches ≡ branches ws → length xs - 11 * z .branches ≡ branchAt ws 0
-  starts z m = start-at ws xs right m refl ∙ sym (branch-first ws)

@@ -1,26 +1,21 @@
 -- The rows of references, angle differences, thermal limits and curve segments over plain numbers.
 use Prim.Native.Nat.{ℕ, _+_, _*_}
-use mathlib.Core.Bool.{Bool, cond, _&&_}
+use mathlib.Core.Bool.{Bool, cond}
 use mathlib.Core.List.{List, [], _∷_, _++_}
-use lib.ListN.{getD}
-use lib.Ieee.{Float, lt}
+use lib.Ieee.{Float}
 use Rattle.base.specs.Loop.{each, keep}
-use Rattle.float.specs.Number.{_⊗_, zero64}
+use Rattle.float.specs.Number.{_⊗_}
 use Rattle.nl.specs.Expr.{Expr, column, shared}
-use Rattle.network.specs.Network.{number, curved, segments, curveAt, epigraphColumn, pgColumn}
-use Rattle.network.specs.Word.{branchFrom, branchTo, branchAngled, branchLimited, referenceBus}
+use Rattle.network.specs.Network.{from, to, angled, referred, rated, sMax, curved, segments, curveAt, epigraphColumn, pgColumn}
 use Rattle.acopf.specs.Build.{literal, add, subtract, square, scaled}
 use Rattle.acopf.specs.Curve.{slope, intercept}
 use Rattle.emit.specs.Tokens.{Token, partTokens}
 
--- words from `first` on
-abbrev pub referenceTokens : List ℕ → ℕ → ℕ → List Token
-referenceTokens ws first r = partTokens 11 (column (referenceBus (getD ws (first + r) 0)) ∷ [])
+abbrev pub referenceTokens : List ℕ → ℕ → List Token
+referenceTokens ws r = partTokens 11 (column (referred ws r) ∷ [])
 
-abbrev pub angleTokens : List ℕ → ℕ → ℕ → List Token
-angleTokens ws first b =
-    let w = getD ws (first + b) 0 in
-    partTokens 11 (keep (branchAngled w) (subtract (column (branchFrom w)) (column (branchTo w))))
+abbrev pub angleTokens : List ℕ → ℕ → List Token
+angleTokens ws b = partTokens 11 (keep (angled ws b) (subtract (column (from ws b)) (column (to ws b))))
 
 -- x less the squares of the shared parts p and q
 abbrev pub thermalOf : ℕ → ℕ → Float → Expr
@@ -29,11 +24,9 @@ thermalOf p q x = subtract (literal x) (add (square (shared p)) (square (shared 
 abbrev pub thermalPair : Bool → ℕ → Float → List Expr
 thermalPair rated first x = keep rated (thermalOf (first + 4) (first + 5) x) ++ keep rated (thermalOf (first + 6) (first + 7) x)
 
--- numbers from `start` on, 11 a branch
-abbrev pub thermalTokens : List ℕ → List Float → ℕ → ℕ → ℕ → ℕ → List Token
-thermalTokens ws xs first n start b =
-    let x = number xs (start + 11 * b + 10) in
-    partTokens 11 (thermalPair (branchLimited (getD ws (first + b) 0) && lt zero64 x) (n + 8 * b) (x ⊗ x))
+-- a branch has eight shared parts, after n of the buses
+abbrev pub thermalTokens : List ℕ → List Float → ℕ → ℕ → List Token
+thermalTokens ws xs n b = partTokens 11 (thermalPair (rated ws xs b) (n + 8 * b) (sMax ws xs b ⊗ sMax ws xs b))
 
 -- the epigraph column e less slope a times pg's column c plus intercept b
 abbrev pub segmentOf : ℕ → ℕ → Float → Float → Expr

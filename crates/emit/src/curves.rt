@@ -11,17 +11,17 @@ use crate::writer::put;
 use acopf::intercept_of;
 use acopf::slope_of;
 use factor::counted;
-use factor::is_curved;
 use factor::row_segments;
-use network::Sizes;
-use network::generator_points;
-use network::header_costs;
+use network::Layout;
+use network::first_generator;
+use network::generator_of;
+use network::next_generator;
 ghost use mathlib.Core.List.{[], _∷_};
 ghost use Prim.Native.Nat.{ℕ, _+_, _*_, _<_, _≤_};
 ghost use lib.ListN.{length};
 ghost use Rattle.base.specs.Loop.{each};
 ghost use Rattle.emit.specs.Tokens.{Written, Room, partTokens};
-ghost use Rattle.emit.specs.Sized.{Sized};
+ghost use Rattle.network.specs.Layout.{Laid};
 ghost use Rattle.emit.specs.Rows.{segmentOf, segmentTokens, curveTokens};
 
 // The epigraph column, less slope times pg plus intercept.
@@ -92,33 +92,39 @@ fn segment_rows(
 pub(crate) fn curve_rows(
     words: &[u32],
     numbers: &[f64],
-    sizes: Sizes,
+    layout: Layout,
     file: &mut [u32],
     constants: &mut [f64],
     writer: Writer,
 ) -> Writer
-    requires { ⌜ Sized (now words) (now numbers) sizes
-        × Room (now file) (now constants) writer (each (sizes .generators) (curveTokens (now words) (now numbers))) ⌝ }
+    requires { ⌜ Laid (now words) (now numbers) layout
+        × Room (now file) (now constants) writer (each (layout .generators) (curveTokens (now words) (now numbers))) ⌝ }
     ensures { λ r. ⌜ Written (now (file .entry)) (now (constants .entry)) writer
-        (each (sizes .generators) (curveTokens (now (words .entry)) (now (numbers .entry))))
+        (each (layout .generators) (curveTokens (now (words .entry)) (now (numbers .entry))))
         (now (file .exit)) (now (constants .exit)) r ⌝ }
 {
-    let n = sizes.buses;
-    let k = sizes.generators;
-    let priced = header_costs(words[0]);
+    let n = layout.buses;
+    let k = layout.generators;
     let mut next = writer;
-    let mut at = 8 * n;
+    let mut cursor = first_generator(words, layout);
     let mut epigraphs = 0usize;
-    let mut g = 0usize;
-    while g < k {
-        let points = generator_points(words[1 + n + g]);
-        let count = row_segments(priced, points);
+    while cursor.index < k {
+        let generator = generator_of(words, numbers, layout, cursor);
+        let count = row_segments(layout.costs, generator.points);
         let epigraph = 2 * n + 2 * k + epigraphs;
-        let pg = 2 * n + g;
-        next = segment_rows(numbers, at + 9, count, epigraph, pg, file, constants, next);
-        at += 9 + 2 * points;
-        epigraphs = counted(epigraphs, is_curved(priced, points));
-        g += 1;
+        let pg = 2 * n + cursor.index;
+        next = segment_rows(
+            numbers,
+            generator.curve,
+            count,
+            epigraph,
+            pg,
+            file,
+            constants,
+            next,
+        );
+        epigraphs = counted(epigraphs, generator.curved);
+        cursor = next_generator(words, layout, cursor);
     }
     next
 }

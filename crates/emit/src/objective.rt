@@ -10,22 +10,20 @@ use crate::word::model_word;
 use crate::writer::Writer;
 use crate::writer::put;
 use factor::counted;
-use factor::is_curved;
-use network::Sizes;
-use network::generator_points;
-use network::header_costs;
+use network::Layout;
+use network::first_generator;
+use network::generator_of;
+use network::next_generator;
 ghost use mathlib.Core.Path.{_≡_};
 ghost use mathlib.Core.Bool.{cond};
 ghost use mathlib.Core.List.{[], _∷_};
 ghost use Prim.Native.Nat.{_+_, _<_, _≤_};
-ghost use lib.ListN.{length};
 ghost use Rattle.base.specs.Loop.{each};
 ghost use Rattle.base.specs.Word.{word};
 ghost use Rattle.float.specs.Number.{_⊗_, half64};
 ghost use Rattle.nl.specs.Expr.{column};
-ghost use Rattle.network.specs.Network.{costs, number};
 ghost use Rattle.emit.specs.Tokens.{fixed, Written, Room, listTokens};
-ghost use Rattle.emit.specs.Sized.{Sized};
+ghost use Rattle.network.specs.Layout.{Laid};
 ghost use Rattle.emit.specs.Objective.{costOf, costTokens, sumHead, costCount, objectiveTokens};
 
 // The beginning of a sum of so many terms: none is a constant 0, one is its term.
@@ -93,23 +91,22 @@ fn quadratic_cost(
     )
 }
 
-// A generator's term, where its numbers start at `at`: its epigraph column, or its quadratic cost without the constant.
+// A generator's term: its epigraph column, or its quadratic cost without the constant.
 fn cost_term(
     curved: bool,
     epigraph: usize,
     pg: usize,
-    numbers: &[f64],
-    at: usize,
+    cost_q: f64,
+    cost_c: f64,
     file: &mut [u32],
     constants: &mut [f64],
     writer: Writer,
 ) -> Writer
-    requires { ⌜ (epigraph < 4096) × (pg < 4096) × (at + 9 ≤ length (now numbers))
-        × Room (now file) (now constants) writer (listTokens (cond curved (column epigraph)
-        (costOf pg (half64 ⊗ number (now numbers) (at + 4)) (number (now numbers) (at + 5))) ∷ [])) ⌝ }
+    requires { ⌜ (epigraph < 4096) × (pg < 4096)
+        × Room (now file) (now constants) writer
+        (listTokens (cond curved (column epigraph) (costOf pg (half64 ⊗ «cost_q») «cost_c») ∷ [])) ⌝ }
     ensures { λ r. ⌜ Written (now (file .entry)) (now (constants .entry)) writer
-        (listTokens (cond curved (column epigraph)
-        (costOf pg (half64 ⊗ number (now (numbers .entry)) (at + 4)) (number (now (numbers .entry)) (at + 5))) ∷ []))
+        (listTokens (cond curved (column epigraph) (costOf pg (half64 ⊗ «cost_q») «cost_c») ∷ []))
         (now (file .exit)) (now (constants .exit)) r ⌝ }
 {
     if curved {
@@ -122,48 +119,47 @@ fn cost_term(
             0,
         );
     }
-    quadratic_cost(
-        pg,
-        0.5 * numbers[at + 4],
-        numbers[at + 5],
-        file,
-        constants,
-        writer,
-    )
+    quadratic_cost(pg, 0.5 * cost_q, cost_c, file, constants, writer)
 }
 
 // Writes the cost terms of the first `count` generators.
 fn cost_terms(
     words: &[u32],
     numbers: &[f64],
-    sizes: Sizes,
-    priced: bool,
+    layout: Layout,
     count: usize,
     file: &mut [u32],
     constants: &mut [f64],
     writer: Writer,
 ) -> Writer
-    requires { ⌜ Sized (now words) (now numbers) sizes × (priced ≡ costs (now words)) × (count ≤ sizes .generators)
+    requires { ⌜ Laid (now words) (now numbers) layout × (count ≤ layout .generators)
         × Room (now file) (now constants) writer (each count (costTokens (now words) (now numbers))) ⌝ }
     ensures { λ r. ⌜ Written (now (file .entry)) (now (constants .entry)) writer
         (each count (costTokens (now (words .entry)) (now (numbers .entry))))
         (now (file .exit)) (now (constants .exit)) r ⌝ }
 {
-    let n = sizes.buses;
-    let k = sizes.generators;
+    let n = layout.buses;
+    let k = layout.generators;
     let mut next = writer;
-    let mut at = 8 * n;
+    let mut cursor = first_generator(words, layout);
     let mut epigraphs = 0usize;
-    let mut g = 0usize;
-    while g < count {
-        let points = generator_points(words[1 + n + g]);
-        let curved = is_curved(priced, points);
+    while cursor.index < count {
+        let generator = generator_of(words, numbers, layout, cursor);
+        let curved = generator.curved;
         let epigraph = 2 * n + 2 * k + epigraphs;
-        let pg = 2 * n + g;
-        next = cost_term(curved, epigraph, pg, numbers, at, file, constants, next);
-        at += 9 + 2 * points;
+        let pg = 2 * n + cursor.index;
+        next = cost_term(
+            curved,
+            epigraph,
+            pg,
+            generator.cost_q,
+            generator.cost_c,
+            file,
+            constants,
+            next,
+        );
         epigraphs = counted(epigraphs, curved);
-        g += 1;
+        cursor = next_generator(words, layout, cursor);
     }
     next
 }
@@ -180,21 +176,20 @@ fn cost_count(priced: bool, k: usize) -> usize
 pub(crate) fn objective_and_end(
     words: &[u32],
     numbers: &[f64],
-    sizes: Sizes,
+    layout: Layout,
     file: &mut [u32],
     constants: &mut [f64],
     writer: Writer,
 ) -> Writer
-    requires { ⌜ Sized (now words) (now numbers) sizes
+    requires { ⌜ Laid (now words) (now numbers) layout
         × Room (now file) (now constants) writer
-        (objectiveTokens (now words) (now numbers) (costCount (costs (now words)) (sizes .generators))) ⌝ }
+        (objectiveTokens (now words) (now numbers) (costCount (layout .costs) (layout .generators))) ⌝ }
     ensures { λ r. ⌜ Written (now (file .entry)) (now (constants .entry)) writer
-        (objectiveTokens (now (words .entry)) (now (numbers .entry)) (costCount (costs (now (words .entry))) (sizes .generators)))
+        (objectiveTokens (now (words .entry)) (now (numbers .entry)) (costCount (layout .costs) (layout .generators)))
         (now (file .exit)) (now (constants .exit)) r ⌝ }
 {
-    let priced = header_costs(words[0]);
-    let count = cost_count(priced, sizes.generators);
+    let count = cost_count(layout.costs, layout.generators);
     let head = objective_head(count, file, constants, writer);
-    let next = cost_terms(words, numbers, sizes, priced, count, file, constants, head);
+    let next = cost_terms(words, numbers, layout, count, file, constants, head);
     put(file, constants, next, &[END], &[], 0)
 }

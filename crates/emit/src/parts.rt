@@ -13,19 +13,18 @@ use crate::word::model_word;
 use crate::writer::Writer;
 use crate::writer::put;
 use acopf::coefficients;
-use network::Sizes;
+use network::Layout;
 use network::branch_from;
+use network::branch_start;
 use network::branch_to;
-ghost use mathlib.Core.Path.{_≡_};
 ghost use mathlib.Core.List.{[], _∷_};
 ghost use Prim.Native.Nat.{_+_, _<_, _≤_};
 ghost use Rattle.base.specs.Loop.{each};
 ghost use Rattle.nl.specs.Expr.{column};
-ghost use Rattle.network.specs.Network.{branchAt};
 ghost use Rattle.acopf.specs.Build.{square};
 ghost use Rattle.acopf.specs.Parts.{branchParts};
 ghost use Rattle.emit.specs.Tokens.{Written, Room, partTokens};
-ghost use Rattle.emit.specs.Sized.{Sized};
+ghost use Rattle.network.specs.Layout.{Laid};
 ghost use Rattle.emit.specs.Parts.{angleParts, productParts, voltageParts, flowSum, flowParts, allParts, sharedTokens};
 
 fn square_part(vm: usize, file: &mut [u32], constants: &mut [f64], writer: Writer) -> Writer
@@ -227,61 +226,50 @@ fn branch_parts(
     flow_parts(first, to, at_to, file, constants, flows)
 }
 
-// Of branch b, whose numbers start at `at`.
+// Of branch b.
 fn branch_flow(
     words: &[u32],
     numbers: &[f64],
-    sizes: Sizes,
+    layout: Layout,
     b: usize,
-    at: usize,
     file: &mut [u32],
     constants: &mut [f64],
     writer: Writer,
 ) -> Writer
-    requires { ⌜ Sized (now words) (now numbers) sizes × (b < sizes .branches) × (at ≡ branchAt (now words) b)
+    requires { ⌜ Laid (now words) (now numbers) layout × (b < layout .branches)
         × Room (now file) (now constants) writer (partTokens 10 (branchParts (now words) (now numbers) b)) ⌝ }
     ensures { λ r. ⌜ Written (now (file .entry)) (now (constants .entry)) writer
         (partTokens 10 (branchParts (now (words .entry)) (now (numbers .entry)) b))
         (now (file .exit)) (now (constants .exit)) r ⌝ }
 {
-    let n = sizes.buses;
-    let w = words[1 + n + sizes.generators + b];
+    let n = layout.buses;
+    let first = layout.branch_words;
+    let w = words[first + b];
     let from = branch_from(w);
     let to = branch_to(w);
-    let cs = coefficients(numbers, at);
+    let cs = coefficients(numbers, branch_start(words, layout, b));
     branch_parts(n, n + 8 * b, from, to, cs, file, constants, writer)
 }
 
-// The branches' numbers start at `start`.
 fn branch_flows(
     words: &[u32],
     numbers: &[f64],
-    sizes: Sizes,
-    start: usize,
+    layout: Layout,
     file: &mut [u32],
     constants: &mut [f64],
     writer: Writer,
 ) -> Writer
-    requires { ⌜ Sized (now words) (now numbers) sizes × (start ≡ branchAt (now words) 0)
-        × Room (now file) (now constants) writer (each (sizes .branches) (λ b. partTokens 10 (branchParts (now words) (now numbers) b))) ⌝ }
+    requires { ⌜ Laid (now words) (now numbers) layout
+        × Room (now file) (now constants) writer (each (layout .branches) (λ b. partTokens 10 (branchParts (now words) (now numbers) b))) ⌝ }
     ensures { λ r. ⌜ Written (now (file .entry)) (now (constants .entry)) writer
-        (each (sizes .branches) (λ b. partTokens 10 (branchParts (now (words .entry)) (now (numbers .entry)) b)))
+        (each (layout .branches) (λ b. partTokens 10 (branchParts (now (words .entry)) (now (numbers .entry)) b)))
         (now (file .exit)) (now (constants .exit)) r ⌝ }
 {
-    let m = sizes.branches;
+    let m = layout.branches;
     let mut next = writer;
     let mut b = 0usize;
     while b < m {
-        next = branch_flow(
-            words,
-            numbers,
-            sizes,
-            b,
-            start + 11 * b,
-            file,
-            constants,
-            next,
-        );
+        next = branch_flow(words, numbers, layout, b, file, constants, next);
         b += 1;
     }
     next
@@ -290,18 +278,17 @@ fn branch_flows(
 pub(crate) fn shared_parts(
     words: &[u32],
     numbers: &[f64],
-    sizes: Sizes,
-    start: usize,
+    layout: Layout,
     file: &mut [u32],
     constants: &mut [f64],
     writer: Writer,
 ) -> Writer
-    requires { ⌜ Sized (now words) (now numbers) sizes × (start ≡ branchAt (now words) 0)
-        × Room (now file) (now constants) writer (sharedTokens (now words) (now numbers) (sizes .buses) (sizes .branches)) ⌝ }
+    requires { ⌜ Laid (now words) (now numbers) layout
+        × Room (now file) (now constants) writer (sharedTokens (now words) (now numbers) (layout .buses) (layout .branches)) ⌝ }
     ensures { λ r. ⌜ Written (now (file .entry)) (now (constants .entry)) writer
-        (sharedTokens (now (words .entry)) (now (numbers .entry)) (sizes .buses) (sizes .branches))
+        (sharedTokens (now (words .entry)) (now (numbers .entry)) (layout .buses) (layout .branches))
         (now (file .exit)) (now (constants .exit)) r ⌝ }
 {
-    let next = vm_squared(sizes.buses, file, constants, writer);
-    branch_flows(words, numbers, sizes, start, file, constants, next)
+    let squares = vm_squared(layout.buses, file, constants, writer);
+    branch_flows(words, numbers, layout, file, constants, squares)
 }

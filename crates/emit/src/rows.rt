@@ -9,16 +9,17 @@ use crate::word::SUBTRACT;
 use crate::word::model_word;
 use crate::writer::Writer;
 use crate::writer::put;
-use factor::is_rated;
+use network::Layout;
 use network::branch_angled;
 use network::branch_from;
+use network::branch_of;
 use network::branch_to;
 use network::reference_bus;
 ghost use mathlib.Core.List.{[], _∷_};
-ghost use Prim.Native.Nat.{_+_, _*_, _<_, _≤_};
-ghost use lib.ListN.{length};
+ghost use Prim.Native.Nat.{_+_, _*_, _<_};
 ghost use Rattle.base.specs.Loop.{each, keep};
 ghost use Rattle.nl.specs.Expr.{column};
+ghost use Rattle.network.specs.Layout.{LaidWords, Laid};
 ghost use Rattle.acopf.specs.Build.{subtract};
 ghost use Rattle.emit.specs.Tokens.{Written, Room, partTokens};
 ghost use Rattle.emit.specs.Rows.{referenceTokens, angleTokens, thermalOf, thermalPair, thermalTokens};
@@ -41,22 +42,25 @@ fn reference_row(va: usize, file: &mut [u32], constants: &mut [f64], writer: Wri
 
 pub(crate) fn reference_rows(
     words: &[u32],
-    first: usize,
-    count: usize,
+    layout: Layout,
     file: &mut [u32],
     constants: &mut [f64],
     writer: Writer,
 ) -> Writer
-    requires { ⌜ (first + count ≤ length (now words))
-        × Room (now file) (now constants) writer (each count (referenceTokens (now words) first)) ⌝ }
-    ensures { λ r. ⌜ Written (now (file .entry)) (now (constants .entry)) writer (each count (referenceTokens (now (words .entry)) first))
+    requires { ⌜ LaidWords (now words) layout
+        × Room (now file) (now constants) writer (each (layout .references) (referenceTokens (now words))) ⌝ }
+    ensures { λ r. ⌜ Written (now (file .entry)) (now (constants .entry)) writer
+        (each (layout .references) (referenceTokens (now (words .entry))))
         (now (file .exit)) (now (constants .exit)) r ⌝ }
 {
+    let first = layout.reference_words;
+    let count = layout.references;
     let mut next = writer;
-    let mut i = 0usize;
-    while i < count {
-        next = reference_row(reference_bus(words[first + i]), file, constants, next);
-        i += 1;
+    let mut r = 0usize;
+    while r < count {
+        let bus = reference_bus(words[first + r]);
+        next = reference_row(bus, file, constants, next);
+        r += 1;
     }
     next
 }
@@ -95,17 +99,19 @@ fn angle_row(
 
 pub(crate) fn angle_rows(
     words: &[u32],
-    first: usize,
-    m: usize,
+    layout: Layout,
     file: &mut [u32],
     constants: &mut [f64],
     writer: Writer,
 ) -> Writer
-    requires { ⌜ (first + m ≤ length (now words))
-        × Room (now file) (now constants) writer (each m (angleTokens (now words) first)) ⌝ }
-    ensures { λ r. ⌜ Written (now (file .entry)) (now (constants .entry)) writer (each m (angleTokens (now (words .entry)) first))
+    requires { ⌜ LaidWords (now words) layout
+        × Room (now file) (now constants) writer (each (layout .branches) (angleTokens (now words))) ⌝ }
+    ensures { λ r. ⌜ Written (now (file .entry)) (now (constants .entry)) writer
+        (each (layout .branches) (angleTokens (now (words .entry))))
         (now (file .exit)) (now (constants .exit)) r ⌝ }
 {
+    let first = layout.branch_words;
+    let m = layout.branches;
     let mut next = writer;
     let mut b = 0usize;
     while b < m {
@@ -177,30 +183,28 @@ fn thermal_pair(
     writer
 }
 
-// Writes the thermal rows of m branches, whose words start at `first` and whose numbers at `start`.
 pub(crate) fn thermal_rows(
     words: &[u32],
     numbers: &[f64],
-    first: usize,
-    n: usize,
-    start: usize,
-    m: usize,
+    layout: Layout,
     file: &mut [u32],
     constants: &mut [f64],
     writer: Writer,
 ) -> Writer
-    requires { ⌜ (first + m ≤ length (now words)) × (start + 11 * m ≤ length (now numbers)) × (n ≤ 256) × (m ≤ 512)
-        × Room (now file) (now constants) writer (each m (thermalTokens (now words) (now numbers) first n start)) ⌝ }
+    requires { ⌜ Laid (now words) (now numbers) layout
+        × Room (now file) (now constants) writer (each (layout .branches) (thermalTokens (now words) (now numbers) (layout .buses))) ⌝ }
     ensures { λ r. ⌜ Written (now (file .entry)) (now (constants .entry)) writer
-        (each m (thermalTokens (now (words .entry)) (now (numbers .entry)) first n start))
+        (each (layout .branches) (thermalTokens (now (words .entry)) (now (numbers .entry)) (layout .buses)))
         (now (file .exit)) (now (constants .exit)) r ⌝ }
 {
+    let n = layout.buses;
+    let m = layout.branches;
     let mut next = writer;
     let mut b = 0usize;
     while b < m {
-        let s_max = numbers[start + 11 * b + 10];
-        let rated = is_rated(words[first + b], s_max);
-        next = thermal_pair(rated, n + 8 * b, s_max * s_max, file, constants, next);
+        let branch = branch_of(words, numbers, layout, b);
+        let square = branch.s_max * branch.s_max;
+        next = thermal_pair(branch.rated, n + 8 * b, square, file, constants, next);
         b += 1;
     }
     next

@@ -4,6 +4,8 @@ use Rattle.acopf.specs.Model.{fileWords}
 use Rattle.acopf.specs.Rows.{rowLower, rowUpper}
 use Rattle.acopf.proofs.Counts.{lower-columns, upper-columns, start-columns, lower-rows, upper-rows}
 use Rattle.compile.proofs.Lent.{as-it-was, as-written, tables-right, suffices}
+use Rattle.network.proofs.Right.{words-clear, size-clear}
+use Rattle.network.proofs.Form.{laid}
 use borrow.Author.Needs.{needs}
 use Rattle.compile.proofs.model.compile.Statement.{statement}
 use Rattle.compile.proofs.model.compile.Tie as tie
@@ -34,51 +36,61 @@ returns c =
 sizes-of-requires : tie.Need-sizes-of-requires
 sizes-of-requires c κs = search needs
 
+layout-of-requires : tie.Need-layout-of-requires
+layout-of-requires c κs =
+    let ws = c .before .before .before .before .before .before .before .before .before .before .before .before .before .args .words .now in
+    let xs = c .before .before .before .before .before .before .before .before .before .before .before .before .before .args .numbers .now in
+    let right = tables-right _ _ _ (c .before .before .before .decided .ensures) (c .before .if1 .left) in
+    (words-clear ws xs right, size-clear ws xs right)
+
 write-model-requires : tie.Need-write-model-requires
 write-model-requires c κs =
-    let z = c .before .before .before .if1 .left in
-    let n = c .before .before .sizes-of .ensures in
-    (n .0, n .1, n .2, n .3, tables-right _ _ _ (c .before .before .before .before .before .decided .ensures) z, suffices _ _ _ (c .before .before .before .before .before .decided .ensures) z .words, suffices _ _ _ (c .before .before .before .before .before .decided .ensures) z .constants)
+    let ws = c .before .before .before .before .before .before .before .before .before .before .before .before .before .before .before .before .args .words .now in
+    let xs = c .before .before .before .before .before .before .before .before .before .before .before .before .before .before .before .before .args .numbers .now in
+    let z = c .before .before .before .before .if1 .left in
+    let right = tables-right _ _ _ (c .before .before .before .before .before .before .decided .ensures) z in
+    let room = suffices _ _ _ (c .before .before .before .before .before .before .decided .ensures) z in
+    (laid ws xs right (c .before .before .before .before .before .before .before .before .before .before .before .before .before .before .shared-slice-known2 .given) (c .before .before .layout-of .ensures), right, room .words, room .constants)
 
 write-column-lower-requires : tie.Need-write-column-lower-requires
 write-column-lower-requires c κs =
-    let z = c .before .before .before .before .before .before .before .before .before .if1 .left in
-    let n = c .before .before .before .before .before .before .before .before .sizes-of .ensures in
-    let ws = c .before .before .before .before .before .before .before .before .before .before .before .before .before .before .before .before .before .before .before .before .before .args .words .now in
-    let xs = c .before .before .before .before .before .before .before .before .before .before .before .before .before .before .before .before .before .before .before .before .before .args .numbers .now in
-    (n .0, n .1, tables-right _ _ _ (c .before .before .before .before .before .before .before .before .before .before .before .decided .ensures) z, rw (lower-columns ws xs) at (suffices _ _ _ (c .before .before .before .before .before .before .before .before .before .before .before .decided .ensures) z .column-lower))
+    let z = c .before .before .before .before .before .before .before .before .before .before .if1 .left in
+    let n = c .before .before .before .before .before .before .before .before .before .sizes-of .ensures in
+    let ws = c .before .before .before .before .before .before .before .before .before .before .before .before .before .before .before .before .before .before .before .before .before .before .args .words .now in
+    let xs = c .before .before .before .before .before .before .before .before .before .before .before .before .before .before .before .before .before .before .before .before .before .before .args .numbers .now in
+    (n .0, n .1, tables-right _ _ _ (c .before .before .before .before .before .before .before .before .before .before .before .before .decided .ensures) z, rw (lower-columns ws xs) at (suffices _ _ _ (c .before .before .before .before .before .before .before .before .before .before .before .before .decided .ensures) z .column-lower))
 
 write-column-upper-requires : tie.Need-write-column-upper-requires
 write-column-upper-requires c κs =
-    let z = c .before .before .before .before .before .before .before .before .before .before .before .before .before .if1 .left in
-    let n = c .before .before .before .before .before .before .before .before .before .before .before .before .sizes-of .ensures in
-    let ws = c .before .before .before .before .before .before .before .before .before .before .before .before .before .before .before .before .before .before .before .before .before .before .before .before .before .args .words .now in
-    let xs = c .before .before .before .before .before .before .before .before .before .before .before .before .before .before .before .before .before .before .before .before .before .before .before .before .before .args .numbers .now in
-    (n .0, n .1, tables-right _ _ _ (c .before .before .before .before .before .before .before .before .before .before .before .before .before .before .before .decided .ensures) z, rw (upper-columns ws xs) at (suffices _ _ _ (c .before .before .before .before .before .before .before .before .before .before .before .before .before .before .before .decided .ensures) z .column-upper))
+    let z = c .before .before .before .before .before .before .before .before .before .before .before .before .before .before .if1 .left in
+    let n = c .before .before .before .before .before .before .before .before .before .before .before .before .before .sizes-of .ensures in
+    let ws = c .before .before .before .before .before .before .before .before .before .before .before .before .before .before .before .before .before .before .before .before .before .before .before .before .before .before .args .words .now in
+    let xs = c .before .before .before .before .before .before .before .before .before .before .before .before .before .before .before .before .before .before .before .before .before .before .before .before .before .before .args .numbers .now in
+    (n .0, n .1, tables-right _ _ _ (c .before .before .before .before .before .before .before .before .before .before .before .before .before .before .before .before .decided .ensures) z, rw (upper-columns ws xs) at (suffices _ _ _ (c .before .before .before .before .before .before .before .before .before .before .before .before .before .before .before .before .decided .ensures) z .column-upper))
 
 write-column-start-requires : tie.Need-write-column-start-requires
 write-column-start-requires c κs =
-    let z = c .before .before .before .before .before .before .before .before .before .before .before .before .before .before .before .before .before .if1 .left in
-    let n = c .before .before .before .before .before .before .before .before .before .before .before .before .before .before .before .before .sizes-of .ensures in
-    let ws = c .before .before .before .before .before .before .before .before .before .before .before .before .before .before .before .before .before .before .before .before .before .before .before .before .before .before .before .before .before .args .words .now in
-    let xs = c .before .before .before .before .before .before .before .before .before .before .before .before .before .before .before .before .before .before .before .before .before .before .before .before .before .before .before .before .before .args .numbers .now in
-    (n .0, n .1, tables-right _ _ _ (c .before .before .before .before .before .before .before .before .before .before .before .before .before .before .before .before .before .before .before .decided .ensures) z, rw (start-columns ws xs) at (suffices _ _ _ (c .before .before .before .before .before .before .before .before .before .before .before .before .before .before .before .before .before .before .before .decided .ensures) z .column-start))
+    let z = c .before .before .before .before .before .before .before .before .before .before .before .before .before .before .before .before .before .before .if1 .left in
+    let n = c .before .before .before .before .before .before .before .before .before .before .before .before .before .before .before .before .before .sizes-of .ensures in
+    let ws = c .before .before .before .before .before .before .before .before .before .before .before .before .before .before .before .before .before .before .before .before .before .before .before .before .before .before .before .before .before .before .args .words .now in
+    let xs = c .before .before .before .before .before .before .before .before .before .before .before .before .before .before .before .before .before .before .before .before .before .before .before .before .before .before .before .before .before .before .args .numbers .now in
+    (n .0, n .1, tables-right _ _ _ (c .before .before .before .before .before .before .before .before .before .before .before .before .before .before .before .before .before .before .before .before .decided .ensures) z, rw (start-columns ws xs) at (suffices _ _ _ (c .before .before .before .before .before .before .before .before .before .before .before .before .before .before .before .before .before .before .before .before .decided .ensures) z .column-start))
 
 write-row-lower-requires : tie.Need-write-row-lower-requires
 write-row-lower-requires c κs =
-    let z = c .before .before .before .before .before .before .before .before .before .before .before .before .before .before .before .before .before .before .before .before .before .if1 .left in
-    let n = c .before .before .before .before .before .before .before .before .before .before .before .before .before .before .before .before .before .before .before .before .sizes-of .ensures in
-    let ws = c .before .before .before .before .before .before .before .before .before .before .before .before .before .before .before .before .before .before .before .before .before .before .before .before .before .before .before .before .before .before .before .before .before .args .words .now in
-    let xs = c .before .before .before .before .before .before .before .before .before .before .before .before .before .before .before .before .before .before .before .before .before .before .before .before .before .before .before .before .before .before .before .before .before .args .numbers .now in
-    (n .0, n .1, n .2, n .3, tables-right _ _ _ (c .before .before .before .before .before .before .before .before .before .before .before .before .before .before .before .before .before .before .before .before .before .before .before .decided .ensures) z, rw (lower-rows ws xs) at (suffices _ _ _ (c .before .before .before .before .before .before .before .before .before .before .before .before .before .before .before .before .before .before .before .before .before .before .before .decided .ensures) z .row-lower))
+    let z = c .before .before .before .before .before .before .before .before .before .before .before .before .before .before .before .before .before .before .before .before .before .before .if1 .left in
+    let n = c .before .before .before .before .before .before .before .before .before .before .before .before .before .before .before .before .before .before .before .before .before .sizes-of .ensures in
+    let ws = c .before .before .before .before .before .before .before .before .before .before .before .before .before .before .before .before .before .before .before .before .before .before .before .before .before .before .before .before .before .before .before .before .before .before .args .words .now in
+    let xs = c .before .before .before .before .before .before .before .before .before .before .before .before .before .before .before .before .before .before .before .before .before .before .before .before .before .before .before .before .before .before .before .before .before .before .args .numbers .now in
+    (n .0, n .1, n .2, n .3, tables-right _ _ _ (c .before .before .before .before .before .before .before .before .before .before .before .before .before .before .before .before .before .before .before .before .before .before .before .before .decided .ensures) z, rw (lower-rows ws xs) at (suffices _ _ _ (c .before .before .before .before .before .before .before .before .before .before .before .before .before .before .before .before .before .before .before .before .before .before .before .before .decided .ensures) z .row-lower))
 
 write-row-upper-requires : tie.Need-write-row-upper-requires
 write-row-upper-requires c κs =
-    let z = c .before .before .before .before .before .before .before .before .before .before .before .before .before .before .before .before .before .before .before .before .before .before .before .before .before .if1 .left in
-    let n = c .before .before .before .before .before .before .before .before .before .before .before .before .before .before .before .before .before .before .before .before .before .before .before .before .sizes-of .ensures in
-    let ws = c .before .before .before .before .before .before .before .before .before .before .before .before .before .before .before .before .before .before .before .before .before .before .before .before .before .before .before .before .before .before .before .before .before .before .before .before .before .args .words .now in
-    let xs = c .before .before .before .before .before .before .before .before .before .before .before .before .before .before .before .before .before .before .before .before .before .before .before .before .before .before .before .before .before .before .before .before .before .before .before .before .before .args .numbers .now in
-    (n .0, n .1, n .2, n .3, tables-right _ _ _ (c .before .before .before .before .before .before .before .before .before .before .before .before .before .before .before .before .before .before .before .before .before .before .before .before .before .before .before .decided .ensures) z, rw (upper-rows ws xs) at (suffices _ _ _ (c .before .before .before .before .before .before .before .before .before .before .before .before .before .before .before .before .before .before .before .before .before .before .before .before .before .before .before .decided .ensures) z .row-upper))
+    let z = c .before .before .before .before .before .before .before .before .before .before .before .before .before .before .before .before .before .before .before .before .before .before .before .before .before .before .if1 .left in
+    let n = c .before .before .before .before .before .before .before .before .before .before .before .before .before .before .before .before .before .before .before .before .before .before .before .before .before .sizes-of .ensures in
+    let ws = c .before .before .before .before .before .before .before .before .before .before .before .before .before .before .before .before .before .before .before .before .before .before .before .before .before .before .before .before .before .before .before .before .before .before .before .before .before .before .args .words .now in
+    let xs = c .before .before .before .before .before .before .before .before .before .before .before .before .before .before .before .before .before .before .before .before .before .before .before .before .before .before .before .before .before .before .before .before .before .before .before .before .before .before .args .numbers .now in
+    (n .0, n .1, n .2, n .3, tables-right _ _ _ (c .before .before .before .before .before .before .before .before .before .before .before .before .before .before .before .before .before .before .before .before .before .before .before .before .before .before .before .before .decided .ensures) z, rw (upper-rows ws xs) at (suffices _ _ _ (c .before .before .before .before .before .before .before .before .before .before .before .before .before .before .before .before .before .before .before .before .before .before .before .before .before .before .before .before .decided .ensures) z .row-upper))
 
 same-length : tie.Need-same-length
 same-length c = search needs
@@ -103,11 +115,11 @@ same-length-7 c = search needs
 
 returns-2 : tie.Need-returns-2
 returns-2 c =
-    let is = c .before .before .before .before .before .before .before .before .before .before .before .before .before .before .before .before .before .before .before .before .before .before .before .before .before .before .before .before .before .before .decided .ensures in
-    let s = c .before .before .before .before .before .before .before .before .before .before .before .before .before .before .before .before .before .before .before .before .before .before .before .before .before .before .before .before .before .before .before .before .before .before .before .before .before .before .before .before .args in
+    let is = c .before .before .before .before .before .before .before .before .before .before .before .before .before .before .before .before .before .before .before .before .before .before .before .before .before .before .before .before .before .before .before .decided .ensures in
+    let s = c .before .before .before .before .before .before .before .before .before .before .before .before .before .before .before .before .before .before .before .before .before .before .before .before .before .before .before .before .before .before .before .before .before .before .before .before .before .before .before .before .before .args in
     let ws = s .words .now in
     let xs = s .numbers .now in
-    let yes = c .before .before .before .before .before .before .before .before .before .before .before .before .before .before .before .before .before .before .before .before .before .before .before .before .before .before .before .before .if1 .left in (
+    let yes = c .before .before .before .before .before .before .before .before .before .before .before .before .before .before .before .before .before .before .before .before .before .before .before .before .before .before .before .before .before .if1 .left in (
       is,
       record {
         words = as-written _ _ _ is (fileWords ws xs) (s .model-words .now) yes (c .before .before .before .before .before .before .before .before .before .before .before .before .before .before .before .before .before .before .before .before .before .before .before .before .write-model .ensures .0);
@@ -128,6 +140,7 @@ compile-spec =
     decided-requires
     returns
     sizes-of-requires
+    layout-of-requires
     write-model-requires
     write-column-lower-requires
     write-column-upper-requires

@@ -1,6 +1,6 @@
 use native.Mathlib.Omega.{arith}
+use borrow.Author.Needs.{needs}
 use mathlib.Core.List.{_++_}
-use Rattle.network.specs.Network.{costs}
 use Rattle.emit.specs.Objective.{costCount, objectiveTokens}
 use Rattle.emit.specs.Whole.{busRows, branchRows, rowTokens}
 use Rattle.emit.proofs.Tokens.{written-then, room-first, room-then}
@@ -9,21 +9,35 @@ use Rattle.emit.proofs.model.after_parts.Tie as tie
 
 bus-rows-requires : tie.Need-bus-rows-requires
 unfolding rowTokens
-bus-rows-requires c κs = let a = c .before .before .before .before .before .before .args in let s = c .before .before .before .before .before .before .pre .0 in let ws = a .words .now in let xs = a .numbers .now in let z = a .sizes in
-    let P = busRows ws xs z in let Q = branchRows ws xs z (a .start) in let R = objectiveTokens ws xs (costCount (costs ws) (z .generators)) in
-    (s, room-first P (Q ++ R) (c .before .before .before .before .before .before .pre .2))
+bus-rows-requires c κs =
+    let args = c .before .before .before .before .before .before .args in
+    let p = busRows (args .words .now) (args .numbers .now) (args .layout) in
+    let q = branchRows (args .words .now) (args .numbers .now) (args .layout) in
+    let r = objectiveTokens (args .words .now) (args .numbers .now) (costCount (args .layout .costs) (args .layout .generators)) in
+    (c .before .before .before .before .before .before .pre .0, room-first p (q ++ r) (c .before .before .before .before .before .before .pre .1))
 
 branch-rows-requires : tie.Need-branch-rows-requires
 unfolding rowTokens
-branch-rows-requires c κs = let a = c .before .before .before .before .before .before .before .before .before .before .before .before .before .args in let s = c .before .before .before .before .before .before .before .before .before .before .before .before .before .pre .0 in let ws = a .words .now in let xs = a .numbers .now in let z = a .sizes in
-    let P = busRows ws xs z in let Q = branchRows ws xs z (a .start) in let R = objectiveTokens ws xs (costCount (costs ws) (z .generators)) in
-    (s, c .before .before .before .before .before .before .before .before .before .before .before .before .before .pre .1, room-first Q R (room-then P (Q ++ R) (c .before .before .before .before .before .before .before .before .before .before .before .before .before .pre .2) (c .before .before .before .before .before .before .bus-rows .ensures) (omega (arith, c .before .before .before .before .before .before .bus-rows .kept)) (omega (arith, c .before .before .before .before .before .before .bus-rows .kept))))
+branch-rows-requires c κs =
+    let args = c .before .before .before .before .before .before .before .before .before .before .before .before .before .args in
+    let p = busRows (args .words .now) (args .numbers .now) (args .layout) in
+    let q = branchRows (args .words .now) (args .numbers .now) (args .layout) in
+    let r = objectiveTokens (args .words .now) (args .numbers .now) (costCount (args .layout .costs) (args .layout .generators)) in
+    let first = c .before .before .before .before .before .before .bus-rows in
+    let rest = room-then p (q ++ r) (c .before .before .before .before .before .before .before .before .before .before .before .before .before .pre .1) (first .ensures) (omega (arith, first .kept)) (omega (arith, first .kept)) in
+    (c .before .before .before .before .before .before .before .before .before .before .before .before .before .pre .0, room-first q r rest)
 
 objective-and-end-requires : tie.Need-objective-and-end-requires
 unfolding rowTokens
-objective-and-end-requires c κs = let a = c .before .before .before .before .before .before .before .before .before .before .before .before .before .before .before .before .before .before .before .before .args in let s = c .before .before .before .before .before .before .before .before .before .before .before .before .before .before .before .before .before .before .before .before .pre .0 in let ws = a .words .now in let xs = a .numbers .now in let z = a .sizes in
-    let P = busRows ws xs z in let Q = branchRows ws xs z (a .start) in let R = objectiveTokens ws xs (costCount (costs ws) (z .generators)) in
-    (s, room-then Q R (room-then P (Q ++ R) (c .before .before .before .before .before .before .before .before .before .before .before .before .before .before .before .before .before .before .before .before .pre .2) (c .before .before .before .before .before .before .before .before .before .before .before .before .before .bus-rows .ensures) (omega (arith, c .before .before .before .before .before .before .before .before .before .before .before .before .before .bus-rows .kept)) (omega (arith, c .before .before .before .before .before .before .before .before .before .before .before .before .before .bus-rows .kept))) (c .before .before .before .before .before .before .branch-rows .ensures) (omega (arith, c .before .before .before .before .before .before .branch-rows .kept)) (omega (arith, c .before .before .before .before .before .before .branch-rows .kept)))
+objective-and-end-requires c κs =
+    let args = c .before .before .before .before .before .before .before .before .before .before .before .before .before .before .before .before .before .before .before .before .args in
+    let p = busRows (args .words .now) (args .numbers .now) (args .layout) in
+    let q = branchRows (args .words .now) (args .numbers .now) (args .layout) in
+    let r = objectiveTokens (args .words .now) (args .numbers .now) (costCount (args .layout .costs) (args .layout .generators)) in
+    let first = c .before .before .before .before .before .before .before .before .before .before .before .before .before .bus-rows in
+    let rest = room-then p (q ++ r) (c .before .before .before .before .before .before .before .before .before .before .before .before .before .before .before .before .before .before .before .before .pre .1) (first .ensures) (omega (arith, first .kept)) (omega (arith, first .kept)) in
+    let second = c .before .before .before .before .before .before .branch-rows in
+    (c .before .before .before .before .before .before .before .before .before .before .before .before .before .before .before .before .before .before .before .before .pre .0, room-then q r rest (second .ensures) (omega (arith, second .kept)) (omega (arith, second .kept)))
 
 same-length : tie.Need-same-length
 same-length c = omega (arith, c .before .before .before .before .before .before .before .before .before .before .before .before .before .before .before .before .before .before .bus-rows .kept, c .before .before .before .before .before .before .before .before .before .before .before .branch-rows .kept, c .before .before .before .before .objective-and-end .kept)

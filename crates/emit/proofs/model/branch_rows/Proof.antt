@@ -1,40 +1,44 @@
-use Prim.Native.Nat.{_+_}
 use native.Mathlib.Omega.{arith}
+use borrow.Author.Needs.{needs}
 use mathlib.Core.List.{_++_}
 use Rattle.base.specs.Loop.{each}
 use Rattle.emit.specs.Rows.{angleTokens, thermalTokens, curveTokens}
 use Rattle.emit.specs.Whole.{branchRows}
 use Rattle.emit.proofs.Tokens.{written-then, room-first, room-then}
-use Rattle.emit.proofs.Pieces.{branches-in}
 use Rattle.emit.proofs.model.branch_rows.Statement.{statement}
 use Rattle.emit.proofs.model.branch_rows.Tie as tie
 
-add-first : tie.Need-add-first
-add-first c = let s = c .before .before .before .before .pre .0 in omega (arith, s .few-buses, s .few-generators)
-
-add-first-2 : tie.Need-add-first-2
-add-first-2 c = let s = c .before .before .before .before .before .pre .0 in omega (arith, s .few-buses, s .few-generators)
-
 angle-rows-requires : tie.Need-angle-rows-requires
 unfolding branchRows
-angle-rows-requires c κs = let a = c .before .before .before .before .before .before .before .args in let s = c .before .before .before .before .before .before .before .pre .0 in let ws = a .words .now in let xs = a .numbers .now in let z = a .sizes in
-    let P = each (z .branches) (angleTokens ws (1 + z .buses + z .generators)) in
-    let Q = each (z .branches) (thermalTokens ws xs (1 + z .buses + z .generators) (z .buses) (a .start)) in let R = each (z .generators) (curveTokens ws xs) in
-    (omega (arith, s .words), room-first P (Q ++ R) (c .before .before .before .before .before .before .before .pre .2))
+angle-rows-requires c κs =
+    let args = c .before .before .before .before .before .before .args in
+    let p = each (args .layout .branches) (angleTokens (args .words .now)) in
+    let q = each (args .layout .branches) (thermalTokens (args .words .now) (args .numbers .now) (args .layout .buses)) in
+    let r = each (args .layout .generators) (curveTokens (args .words .now) (args .numbers .now)) in
+    (c .before .before .before .before .before .before .pre .0 .words, room-first p (q ++ r) (c .before .before .before .before .before .before .pre .1))
 
 thermal-rows-requires : tie.Need-thermal-rows-requires
 unfolding branchRows
-thermal-rows-requires c κs = let a = c .before .before .before .before .before .before .before .before .before .before .before .before .before .before .args in let s = c .before .before .before .before .before .before .before .before .before .before .before .before .before .before .pre .0 in let ws = a .words .now in let xs = a .numbers .now in let z = a .sizes in
-    let P = each (z .branches) (angleTokens ws (1 + z .buses + z .generators)) in
-    let Q = each (z .branches) (thermalTokens ws xs (1 + z .buses + z .generators) (z .buses) (a .start)) in let R = each (z .generators) (curveTokens ws xs) in
-    (omega (arith, s .words), branches-in s (c .before .before .before .before .before .before .before .before .before .before .before .before .before .before .pre .1), s .few-buses, s .few-branches, room-first Q R (room-then P (Q ++ R) (c .before .before .before .before .before .before .before .before .before .before .before .before .before .before .pre .2) (c .before .before .before .before .before .before .angle-rows .ensures) (omega (arith, c .before .before .before .before .before .before .angle-rows .kept)) (omega (arith, c .before .before .before .before .before .before .angle-rows .kept))))
+thermal-rows-requires c κs =
+    let args = c .before .before .before .before .before .before .before .before .before .before .before .before .before .args in
+    let p = each (args .layout .branches) (angleTokens (args .words .now)) in
+    let q = each (args .layout .branches) (thermalTokens (args .words .now) (args .numbers .now) (args .layout .buses)) in
+    let r = each (args .layout .generators) (curveTokens (args .words .now) (args .numbers .now)) in
+    let first = c .before .before .before .before .before .before .angle-rows in
+    let rest = room-then p (q ++ r) (c .before .before .before .before .before .before .before .before .before .before .before .before .before .pre .1) (first .ensures) (omega (arith, first .kept)) (omega (arith, first .kept)) in
+    (c .before .before .before .before .before .before .before .before .before .before .before .before .before .pre .0, room-first q r rest)
 
 curve-rows-requires : tie.Need-curve-rows-requires
 unfolding branchRows
-curve-rows-requires c κs = let a = c .before .before .before .before .before .before .before .before .before .before .before .before .before .before .before .before .before .before .before .before .before .args in let s = c .before .before .before .before .before .before .before .before .before .before .before .before .before .before .before .before .before .before .before .before .before .pre .0 in let ws = a .words .now in let xs = a .numbers .now in let z = a .sizes in
-    let P = each (z .branches) (angleTokens ws (1 + z .buses + z .generators)) in
-    let Q = each (z .branches) (thermalTokens ws xs (1 + z .buses + z .generators) (z .buses) (a .start)) in let R = each (z .generators) (curveTokens ws xs) in
-    (s, room-then Q R (room-then P (Q ++ R) (c .before .before .before .before .before .before .before .before .before .before .before .before .before .before .before .before .before .before .before .before .before .pre .2) (c .before .before .before .before .before .before .before .before .before .before .before .before .before .angle-rows .ensures) (omega (arith, c .before .before .before .before .before .before .before .before .before .before .before .before .before .angle-rows .kept)) (omega (arith, c .before .before .before .before .before .before .before .before .before .before .before .before .before .angle-rows .kept))) (c .before .before .before .before .before .before .thermal-rows .ensures) (omega (arith, c .before .before .before .before .before .before .thermal-rows .kept)) (omega (arith, c .before .before .before .before .before .before .thermal-rows .kept)))
+curve-rows-requires c κs =
+    let args = c .before .before .before .before .before .before .before .before .before .before .before .before .before .before .before .before .before .before .before .before .args in
+    let p = each (args .layout .branches) (angleTokens (args .words .now)) in
+    let q = each (args .layout .branches) (thermalTokens (args .words .now) (args .numbers .now) (args .layout .buses)) in
+    let r = each (args .layout .generators) (curveTokens (args .words .now) (args .numbers .now)) in
+    let first = c .before .before .before .before .before .before .before .before .before .before .before .before .before .angle-rows in
+    let rest = room-then p (q ++ r) (c .before .before .before .before .before .before .before .before .before .before .before .before .before .before .before .before .before .before .before .before .pre .1) (first .ensures) (omega (arith, first .kept)) (omega (arith, first .kept)) in
+    let second = c .before .before .before .before .before .before .thermal-rows in
+    (c .before .before .before .before .before .before .before .before .before .before .before .before .before .before .before .before .before .before .before .before .pre .0, room-then q r rest (second .ensures) (omega (arith, second .kept)) (omega (arith, second .kept)))
 
 same-length : tie.Need-same-length
 same-length c = omega (arith, c .before .before .before .before .before .before .before .before .before .before .before .before .before .before .before .before .before .before .angle-rows .kept, c .before .before .before .before .before .before .before .before .before .before .before .thermal-rows .kept, c .before .before .before .before .curve-rows .kept)
@@ -50,8 +54,6 @@ pub branch-rows-spec : {M : Type 1} → statement M
 branch-rows-spec =
     tie.close
     (tie.spec
-    add-first
-    add-first-2
     angle-rows-requires
     thermal-rows-requires
     curve-rows-requires

@@ -1,3 +1,4 @@
+use native.Mathlib.Omega.{arith}
 use borrow.Author.Needs.{needs}
 use Rattle.emit.proofs.objective.cost_term.Statement.{statement}
 use Rattle.emit.proofs.objective.cost_term.Tie as tie
@@ -12,7 +13,7 @@ slice-aggregate-put-2 : tie.Need-slice-aggregate-put-2
 slice-aggregate-put-2 c = search needs
 
 put-requires : tie.Need-put-requires
-put-requires c κs = let room = rw (c .before .before .before .before .before .if1 .taken) at (c .before .before .before .before .before .before .before .before .before .pre .3) in (room .words, room .numbers, room .parts)
+put-requires c κs = let room = rw (c .before .before .before .before .before .if1 .taken) at (c .before .before .before .before .before .before .before .before .pre .2) in (room .words, room .numbers, room .parts)
 
 same-length : tie.Need-same-length
 same-length c = search needs
@@ -21,28 +22,12 @@ same-length-2 : tie.Need-same-length-2
 same-length-2 c = search needs
 
 returns : tie.Need-returns
-returns c = let k = c .before .before .before .before .put .ensures in rw (c .before .before .before .before .before .before .before .before .before .before .if1 .taken) (record { words = rw (c .before .before .before .before .before .before .before .model-word .ensures) at (k .words); numbers = k .numbers; parts = k .parts })
-
-add-quadratic-cost : tie.Need-add-quadratic-cost
-add-quadratic-cost c = search needs
-
-mul-quadratic-cost : tie.Need-mul-quadratic-cost
-mul-quadratic-cost c = search needs
-
-shared-slice-read-quadratic-cost : tie.Need-shared-slice-read-quadratic-cost
-shared-slice-read-quadratic-cost c = search needs
-
-add-quadratic-cost-2 : tie.Need-add-quadratic-cost-2
-add-quadratic-cost-2 c = search needs
-
-mul-quadratic-cost-2 : tie.Need-mul-quadratic-cost-2
-mul-quadratic-cost-2 c = search needs
-
-shared-slice-read-quadratic-cost-2 : tie.Need-shared-slice-read-quadratic-cost-2
-shared-slice-read-quadratic-cost-2 c = search needs
+returns c =
+    let put = c .before .before .before .before .put .ensures in
+    rw (c .before .before .before .before .before .before .before .before .before .before .if1 .taken) (record { words = rw (c .before .before .before .before .before .before .before .model-word .ensures) at (put .words); numbers = put .numbers; parts = put .parts })
 
 quadratic-cost-requires : tie.Need-quadratic-cost-requires
-quadratic-cost-requires c κs = (c .before .before .before .before .before .before .before .before .pre .1, rw (c .before .before .before .before .if1 .left) at (c .before .before .before .before .before .before .before .before .pre .3))
+quadratic-cost-requires c κs = (c .before .before .before .before .before .pre .1, rw (c .before .before .if1 .left) at (c .before .before .before .before .before .pre .2))
 
 same-length-3 : tie.Need-same-length-3
 same-length-3 c = search needs
@@ -51,7 +36,7 @@ same-length-4 : tie.Need-same-length-4
 same-length-4 c = search needs
 
 returns-2 : tie.Need-returns-2
-returns-2 c = rw (c .before .before .before .before .before .before .before .before .before .if1 .left) (c .before .before .before .before .quadratic-cost .ensures)
+returns-2 c = rw (c .before .before .before .before .before .before .before .if1 .left) (c .before .before .before .before .quadratic-cost .ensures)
 
 pub cost-term-spec : {M : Type 1} → statement M
 cost-term-spec =
@@ -64,12 +49,6 @@ cost-term-spec =
     same-length
     same-length-2
     returns
-    add-quadratic-cost
-    mul-quadratic-cost
-    shared-slice-read-quadratic-cost
-    add-quadratic-cost-2
-    mul-quadratic-cost-2
-    shared-slice-read-quadratic-cost-2
     quadratic-cost-requires
     same-length-3
     same-length-4

@@ -1,23 +1,23 @@
 use native.Mathlib.Omega.{arith}
 use borrow.Author.Needs.{needs}
-use Rattle.emit.proofs.Pieces.{branch-in, parts-as}
+use Rattle.emit.proofs.Pieces.{parts-as}
 use Rattle.emit.proofs.parts.branch_flow.Statement.{statement}
 use Rattle.emit.proofs.parts.branch_flow.Tie as tie
 
 add-w : tie.Need-add-w
-add-w c = let s = c .before .before .before .before .pre .0 in omega (arith, s .words, c .before .before .before .before .pre .1)
-
-add-w-2 : tie.Need-add-w-2
-add-w-2 c = let s = c .before .before .before .before .before .pre .0 in omega (arith, s .words, c .before .before .before .before .before .pre .1)
-
-add-w-3 : tie.Need-add-w-3
-add-w-3 c = let s = c .before .before .before .before .before .pre .0 in omega (arith, s .words, c .before .before .before .before .before .pre .1)
+add-w c =
+    let few = c .before .before .before .before .pre .0 .words in
+    omega (arith, few .count, few .branch-words, few .few-buses, few .few-branches, c .before .before .before .before .pre .1)
 
 mul-w : tie.Need-mul-w
-mul-w c = let s = c .before .before .before .before .before .pre .0 in omega (arith, s .words, c .before .before .before .before .before .pre .1)
+mul-w c =
+    let few = c .before .before .before .before .pre .0 .words in
+    omega (arith, few .count, few .branch-words, few .few-buses, few .few-branches, c .before .before .before .before .pre .1)
 
 shared-slice-read-w : tie.Need-shared-slice-read-w
-shared-slice-read-w c = let s = c .before .before .before .before .before .before .pre .0 in omega (arith, s .words, c .before .before .before .before .before .before .pre .1)
+shared-slice-read-w c =
+    let few = c .before .before .before .before .before .pre .0 .words in
+    omega (arith, few .count, few .branch-words, few .few-buses, few .few-branches, c .before .before .before .before .before .pre .1)
 
 branch-from-requires : tie.Need-branch-from-requires
 branch-from-requires c κs = search needs
@@ -25,23 +25,32 @@ branch-from-requires c κs = search needs
 branch-to-requires : tie.Need-branch-to-requires
 branch-to-requires c κs = search needs
 
+branch-start-requires : tie.Need-branch-start-requires
+branch-start-requires c κs = (c .before .before .before .before .before .before .before .pre .0 .words, c .before .before .before .before .before .before .before .pre .1)
+
 coefficients-requires : tie.Need-coefficients-requires
-coefficients-requires c κs = branch-in (c .before .before .before .before .before .before .before .before .pre .0) (c .before .before .before .before .before .before .before .before .args .b) (c .before .before .before .before .before .before .before .before .pre .1) (c .before .before .before .before .before .before .before .before .pre .2)
+coefficients-requires c κs = omega (arith, c .branch-start .ensures .0, c .before .before .before .before .before .before .before .before .pre .0 .branch-fits (c .before .before .before .before .before .before .before .before .args .b) (c .before .before .before .before .before .before .before .before .pre .1))
 
 mul-branch-parts : tie.Need-mul-branch-parts
-mul-branch-parts c = let s = c .before .before .before .before .before .before .before .before .before .pre .0 in omega (arith, s .few-buses, s .few-branches, c .before .before .before .before .before .before .before .before .before .pre .1)
+mul-branch-parts c =
+    let few = c .before .before .before .before .before .before .before .before .before .pre .0 .words in
+    omega (arith, few .count, few .branch-words, few .few-buses, few .few-branches, c .before .before .before .before .before .before .before .before .before .pre .1)
 
 add-branch-parts : tie.Need-add-branch-parts
-add-branch-parts c = let s = c .before .before .before .before .before .before .before .before .before .pre .0 in omega (arith, s .few-buses, s .few-branches, c .before .before .before .before .before .before .before .before .before .pre .1)
+add-branch-parts c =
+    let few = c .before .before .before .before .before .before .before .before .before .pre .0 .words in
+    omega (arith, few .count, few .branch-words, few .few-buses, few .few-branches, c .before .before .before .before .before .before .before .before .before .pre .1)
 
 branch-parts-requires : tie.Need-branch-parts-requires
-branch-parts-requires c κs = let s = c .before .before .before .before .before .before .before .before .before .before .before .pre .0 in (
-  s .few-buses,
-  omega (arith, s .few-buses, s .few-branches, c .before .before .before .before .before .before .before .before .before .before .before .pre .1),
-  rw (c .before .before .before .before .branch-from .ensures) (omega arith),
-  rw (c .before .before .before .branch-to .ensures) (omega arith),
-  rw (parts-as s (c .before .before .before .before .before .before .before .before .before .before .before .args .b) (c .before .before .before .before .before .before .before .before .before .before .before .pre .2) (c .before .before .before .before .branch-from .ensures) (c .before .before .before .branch-to .ensures) (c .before .before .coefficients .ensures)) at (c .before .before .before .before .before .before .before .before .before .before .before .pre .3),
-)
+branch-parts-requires c κs =
+    let few = c .before .before .before .before .before .before .before .before .before .before .before .pre .0 .words in
+    let same = parts-as (c .before .before .before .before .before .before .before .before .before .before .before .pre .0) (c .before .before .before .before .before .before .before .before .before .before .before .args .b) (c .before .before .before .branch-start .ensures .0) (c .before .before .before .before .before .branch-from .ensures) (c .before .before .before .before .branch-to .ensures) (c .before .before .coefficients .ensures) in (
+      few .few-buses,
+      omega (arith, few .few-buses, few .few-branches, c .before .before .before .before .before .before .before .before .before .before .before .pre .1),
+      rw (c .before .before .before .before .before .branch-from .ensures) (omega arith),
+      rw (c .before .before .before .before .branch-to .ensures) (omega arith),
+      rw same at (c .before .before .before .before .before .before .before .before .before .before .before .pre .2),
+    )
 
 same-length : tie.Need-same-length
 same-length c = search needs
@@ -50,19 +59,20 @@ same-length-2 : tie.Need-same-length-2
 same-length-2 c = search needs
 
 returns : tie.Need-returns
-returns c = rw (parts-as (c .before .before .before .before .before .before .before .before .before .before .before .before .before .before .before .before .pre .0) (c .before .before .before .before .before .before .before .before .before .before .before .before .before .before .before .before .args .b) (c .before .before .before .before .before .before .before .before .before .before .before .before .before .before .before .before .pre .2) (c .before .before .before .before .before .before .before .before .before .branch-from .ensures) (c .before .before .before .before .before .before .before .before .branch-to .ensures) (c .before .before .before .before .before .before .before .coefficients .ensures)) (c .before .before .before .before .branch-parts .ensures)
+returns c =
+    let same = parts-as (c .before .before .before .before .before .before .before .before .before .before .before .before .before .before .before .before .pre .0) (c .before .before .before .before .before .before .before .before .before .before .before .before .before .before .before .before .args .b) (c .before .before .before .before .before .before .before .before .branch-start .ensures .0) (c .before .before .before .before .before .before .before .before .before .before .branch-from .ensures) (c .before .before .before .before .before .before .before .before .before .branch-to .ensures) (c .before .before .before .before .before .before .before .coefficients .ensures) in
+    rw same (c .before .before .before .before .branch-parts .ensures)
 
 pub branch-flow-spec : {M : Type 1} → statement M
 branch-flow-spec =
     tie.close
     (tie.spec
     add-w
-    add-w-2
-    add-w-3
     mul-w
     shared-slice-read-w
     branch-from-requires
     branch-to-requires
+    branch-start-requires
     coefficients-requires
     mul-branch-parts
     add-branch-parts

@@ -1,5 +1,6 @@
-use Prim.Native.Nat.{ℕ, _+_}
 use native.Mathlib.Omega.{arith}
+use borrow.Author.Needs.{needs}
+use Prim.Native.Nat.{ℕ, _+_}
 use mathlib.Core.List.{List, [], _∷_}
 use lib.Ieee.{Float}
 use Rattle.base.specs.Loop.{each}
@@ -20,11 +21,20 @@ B ws xs m = each m (λ b. partTokens 10 (branchParts ws xs b))
 
 vm-squared-requires : tie.Need-vm-squared-requires
 unfolding sharedTokens
-vm-squared-requires c κs = (c .before .before .before .before .before .before .pre .0 .few-buses, room-first (S (c .before .before .before .before .before .before .args .sizes .buses)) (B (c .before .before .before .before .before .before .args .words .now) (c .before .before .before .before .before .before .args .numbers .now) (c .before .before .before .before .before .before .args .sizes .branches)) (c .before .before .before .before .before .before .pre .2))
+vm-squared-requires c κs =
+    let args = c .before .before .before .before .before .before .args in
+    let squares = S (args .layout .buses) in
+    let flows = B (args .words .now) (args .numbers .now) (args .layout .branches) in
+    (c .before .before .before .before .before .before .pre .0 .words .few-buses, room-first squares flows (c .before .before .before .before .before .before .pre .1))
 
 branch-flows-requires : tie.Need-branch-flows-requires
 unfolding sharedTokens
-branch-flows-requires c κs = (c .before .before .before .before .before .before .before .before .before .before .before .before .before .pre .0, c .before .before .before .before .before .before .before .before .before .before .before .before .before .pre .1, room-then (S (c .before .before .before .before .before .before .before .before .before .before .before .before .before .args .sizes .buses)) (B (c .before .before .before .before .before .before .before .before .before .before .before .before .before .args .words .now) (c .before .before .before .before .before .before .before .before .before .before .before .before .before .args .numbers .now) (c .before .before .before .before .before .before .before .before .before .before .before .before .before .args .sizes .branches)) (c .before .before .before .before .before .before .before .before .before .before .before .before .before .pre .2) (c .before .before .before .before .before .before .vm-squared .ensures) (omega (arith, c .before .before .before .before .before .before .vm-squared .kept)) (omega (arith, c .before .before .before .before .before .before .vm-squared .kept)))
+branch-flows-requires c κs =
+    let args = c .before .before .before .before .before .before .before .before .before .before .before .before .before .args in
+    let squares = S (args .layout .buses) in
+    let flows = B (args .words .now) (args .numbers .now) (args .layout .branches) in
+    let first = c .before .before .before .before .before .before .vm-squared in
+    (c .before .before .before .before .before .before .before .before .before .before .before .before .before .pre .0, room-then squares flows (c .before .before .before .before .before .before .before .before .before .before .before .before .before .pre .1) (first .ensures) (omega (arith, first .kept)) (omega (arith, first .kept)))
 
 same-length : tie.Need-same-length
 same-length c = omega (arith, c .before .before .before .before .before .before .before .before .before .before .before .vm-squared .kept, c .before .before .before .before .branch-flows .kept)
