@@ -4,6 +4,7 @@ mod curve;
 mod flow;
 
 pub use base::Fault;
+pub use complex::polar;
 pub use curve::curve_value;
 pub use curve::intercept_of;
 pub use curve::slope_of;
