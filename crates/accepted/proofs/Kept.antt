@@ -22,7 +22,7 @@ use Rattle.network.proofs.Right.{lower-right, upper-right, words-clear, angle-r
 use Rattle.acopf.specs.Columns.{columnLower, columnUpper}
 use Rattle.acopf.specs.Curve.{slope, intercept, evaluate, curveValue}
 use Rattle.acopf.specs.Factor.{networkFault}
-use Rattle.acopf.specs.Flow.{flowAt, flow}
+use Rattle.acopf.specs.Flow.{flowAt, flowOf, flow}
 use Rattle.acopf.specs.Rows.{rated}
 use Rattle.acopf.proofs.Counts.{lower-columns, upper-columns}
 use Rattle.acopf.proofs.Right.{tables-clear, lower-finite, upper-finite, slope-finite, intercept-finite}
@@ -68,7 +68,7 @@ pub record FlowFits (fs : List (List Float)) (b : ℕ) : Type 0 where
   pub q-to : T (fits binary64 (qTo fs b))
 
 pub flow-fits : (ws : List ℕ) (xs x : List Float) (b : ℕ) → b < branches ws → FlowFits (flows ws xs x) b
-unfolding flows flow flowAt
+unfolding flows flow flowOf flowAt
 flow-fits ws xs x b l =
     let e = getD-table (branches ws) (flow ws xs x) [] b l in
     record {

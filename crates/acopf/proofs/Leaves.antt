@@ -9,10 +9,10 @@ use lib.Ieee.{Float, nan, inf}
 use Rattle.base.specs.Loop.{loop, table}
 use Rattle.base.proofs.Loops.{getD-table}
 use Rattle.float.specs.Number.{_⊕_, _⊗_, maximum}
-use Rattle.network.specs.Network.{branchAt, from, to, vaColumn, vmColumn}
+use Rattle.network.specs.Network.{branchAt}
 use Rattle.acopf.specs.Curve.{slope, intercept, slopes, intercepts, evaluate}
-use Rattle.acopf.specs.Flow.{branchCoefficients, flow}
-use Rattle.acopf.specs.Leaf.{rowCoefficients, coefficientsAt, rowFlow, flowOf}
+use Rattle.acopf.specs.Flow.{branchCoefficients}
+use Rattle.acopf.specs.Leaf.{rowCoefficients, coefficientsAt}
 use Rattle.acopf.specs.Prepared.{Prepared}
 
 -- ---- a branch
@@ -21,12 +21,6 @@ module _ (ws : List ℕ) (xs : List Float) (b : ℕ) where
   pub coefficients-at : branchCoefficients ws xs b ≡ coefficientsAt xs (branchAt ws b)
   unfolding coefficientsAt rowCoefficients
   coefficients-at = refl
-
-  pub flow-of : (x : List Float) → flow ws xs x b
-      ≡ flowOf xs (branchAt ws b) (getD x (vmColumn ws (from ws b)) nan) (getD x (vaColumn ws (from ws b)) nan)
-      (getD x (vmColumn ws (to ws b)) nan) (getD x (vaColumn ws (to ws b)) nan)
-  unfolding flow flowOf rowFlow
-  flow-of x = refl
 
 -- ---- a curve
 

@@ -6,6 +6,8 @@ use lib.ListN.{getD}
 use lib.Ieee.{Float, nan, neg}
 use Rattle.float.specs.Number.{_⊕_, _⊖_, _⊗_, _⊘_}
 use Rattle.fdlibm.specs.Trig.{sine, cosine}
+use Rattle.network.specs.declared.records.Branch.{Branch}
+use Rattle.network.specs.Layout.{branchRecord}
 use Rattle.network.specs.Network.{from, to, vaColumn, vmColumn, lineG, lineB, gFr, bFr, gTo, bTo, tap, shift}
 
 -- branch_flow: the coefficients of vm squared, wr and wi in p_from, q_from, p_to, q_to
@@ -85,18 +87,19 @@ selfTo y yt = plus y yt
 abbrev pub transferTo : Complex → Complex → Complex
 transferTo y t = quotient y t
 
-module _ (ws : List ℕ) (xs x : List Float) where
-  -- the voltage at bus i of the point x
-  abbrev pub voltage : ℕ → Complex
-  voltage i = polar (getD x (vmColumn ws i) nan) (getD x (vaColumn ws i) nan)
+-- p_from, q_from, p_to, q_to of branch r between buses with voltages vf and vt
+unfoldable pub flowOf : Branch → Complex → Complex → List Float
+flowOf r vf vt =
+    let y = complex (r .g) (r .b) in
+    let t = polar (r .tap) (r .shift) in
+    let sf = flowAt vf vt (selfFrom y (complex (r .«g_fr») (r .«b_fr»)) t) (transferFrom y t) in
+    let st = flowAt vt vf (selfTo y (complex (r .«g_to») (r .«b_to»))) (transferTo y t) in
+    re sf ∷ im sf ∷ re st ∷ im st ∷ []
 
-  -- p_from, q_from, p_to, q_to of branch b
-  unfoldable pub flow : ℕ → List Float
-  flow b =
-      let vf = voltage (from ws b) in
-      let vt = voltage (to ws b) in
-      let y = complex (lineG ws xs b) (lineB ws xs b) in
-      let t = polar (tap ws xs b) (shift ws xs b) in
-      let sf = flowAt vf vt (selfFrom y (complex (gFr ws xs b) (bFr ws xs b)) t) (transferFrom y t) in
-      let st = flowAt vt vf (selfTo y (complex (gTo ws xs b) (bTo ws xs b))) (transferTo y t) in
-      re sf ∷ im sf ∷ re st ∷ im st ∷ []
+-- the voltage at bus i of the point x
+abbrev pub voltage : List ℕ → List Float → ℕ → Complex
+voltage ws x i = polar (getD x (vmColumn ws i) nan) (getD x (vaColumn ws i) nan)
+
+-- the flows of branch b
+unfoldable pub flow : List ℕ → List Float → List Float → ℕ → List Float
+flow ws xs x b = flowOf (branchRecord ws xs b) (voltage ws x (from ws b)) (voltage ws x (to ws b))

@@ -1,5 +1,4 @@
-// A branch's flows: branch_flow's coefficients for the model, and numeric_branch_flow for the check. Callers give the place of the
-// branch's numbers, so that what a record holds is known here alone.
+// A branch's flows: branch_flow's coefficients for the model, and numeric_branch_flow for the check.
 use crate::complex::conjugate;
 use crate::complex::minus;
 use crate::complex::norm_sqr;
@@ -8,11 +7,12 @@ use crate::complex::plus;
 use crate::complex::polar;
 use crate::complex::quotient;
 use crate::complex::times;
+use network::Branch;
 ghost use mathlib.Core.Path.{_≡_};
 ghost use Prim.Native.Nat.{_+_, _≤_};
 ghost use lib.ListN.{length};
-ghost use Rattle.acopf.specs.Flow.{flowAt, selfFrom, transferFrom, selfTo, transferTo};
-ghost use Rattle.acopf.specs.Leaf.{branchRow, rowCoefficients, coefficientsAt, rowFlow, flowOf};
+ghost use Rattle.acopf.specs.Flow.{flowAt, selfFrom, transferFrom, selfTo, transferTo, flowOf};
+ghost use Rattle.acopf.specs.Leaf.{branchRow, rowCoefficients, coefficientsAt};
 
 // The branch's numbers, from g to s_max.
 pub fn branch_row(numbers: &[f64], at: usize) -> [f64; 11]
@@ -106,30 +106,15 @@ fn flow_at(own: [f64; 2], other: [f64; 2], yself: [f64; 2], ytransfer: [f64; 2])
     times(own, conjugate(current))
 }
 
-fn row_flow(row: [f64; 11], vf: [f64; 2], vt: [f64; 2]) -> [f64; 4]
-    ensures { λ r. ⌜ r ≡ rowFlow row vf vt ⌝ }
+// p_from, q_from, p_to, q_to at the voltages of the two buses: a bus has one voltage, which all its branches share.
+pub fn numeric_branch_flow(branch: Branch, vf: [f64; 2], vt: [f64; 2]) -> [f64; 4]
+    ensures { λ r. ⌜ r ≡ flowOf branch vf vt ⌝ }
 {
-    let y = [row[0], row[1]];
-    let yf = [row[2], row[3]];
-    let yt = [row[4], row[5]];
-    let tap = polar(row[6], row[7]);
+    let y = [branch.g, branch.b];
+    let yf = [branch.g_fr, branch.b_fr];
+    let yt = [branch.g_to, branch.b_to];
+    let tap = polar(branch.tap, branch.shift);
     let sf = flow_at(vf, vt, self_from(y, yf, tap), transfer_from(y, tap));
     let st = flow_at(vt, vf, self_to(y, yt), transfer_to(y, tap));
     [sf[0], sf[1], st[0], st[1]]
-}
-
-// p_from, q_from, p_to, q_to at the two buses' vm and va.
-pub fn numeric_branch_flow(
-    numbers: &[f64],
-    at: usize,
-    vmf: f64,
-    vaf: f64,
-    vmt: f64,
-    vat: f64,
-) -> [f64; 4]
-    requires { ⌜ at + 11 ≤ length (now numbers) ⌝ }
-    ensures { λ r. ⌜ r ≡ flowOf (now (numbers .entry)) at vmf vaf vmt vat ⌝ }
-{
-    let row = branch_row(numbers, at);
-    row_flow(row, polar(vmf, vaf), polar(vmt, vat))
 }

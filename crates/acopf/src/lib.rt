@@ -11,6 +11,7 @@ pub use columns::epigraph_start;
 pub use columns::generator_start;
 pub use columns::lower_bound;
 pub use columns::upper_bound;
+pub use complex::polar;
 pub use curve::curve_value;
 pub use curve::intercept_of;
 pub use curve::slope_of;

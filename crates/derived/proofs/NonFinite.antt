@@ -1,8 +1,8 @@
--- Laws of the first number that is not finite: in lists one after the other, and in the front of a list.
-use mathlib.Core.Path.{_≡_, refl, sym, ap, _∙_}
-use mathlib.Core.List.{List, _++_, append-assoc}
+-- Laws of the first number that is not finite: in the front of a list, and in lists one after the other.
+use mathlib.Core.Path.{_≡_, refl, sym, _∙_}
+use mathlib.Core.List.{List, _++_}
 use mathlib.Core.Bool.{Bool, true, false, cond}
-use Prim.Native.Nat.{ℕ, zero, suc, _+_, _*_, _<_, _≤_}
+use Prim.Native.Nat.{ℕ, zero, suc, _+_, _<_, _≤_}
 use native.Mathlib.Nat.{zero-add, add-zero}
 use native.Mathlib.Omega.{arith}
 use lib.Ieee.{Float, nan}
@@ -16,7 +16,7 @@ use Rattle.base.specs.Loop.{loop}
 use Rattle.base.proofs.Firsts.{Proper, unless-proper, first-proper}
 use Rattle.float.specs.Number.{isFinite}
 use Rattle.acopf.specs.Factor.{firstNonFinite}
-use Rattle.derived.specs.Scratch.{listed, nonFiniteFrom}
+use Rattle.derived.specs.Scratch.{nonFiniteFrom}
 
 or-clear-right : (f : Fault) → Proper f → orElse f clear ≡ f
 unfolding orElse
@@ -77,31 +77,8 @@ pub non-finite-zero : (number : ℕ) (l : List Float) → nonFiniteFrom number 0
 unfolding nonFiniteFrom firstNonFinite
 non-finite-zero number l = first-same (length l) _ _ (λ i q. rw zero-add)
 
--- two fronts, one after the other
-pub two-fronts : (from count : ℕ) (a b : List Float) → count ≤ length a
-    → nonFiniteFrom 15 from (take count a ++ take count b) ≡ orElse (nonFiniteFrom 15 from (take count a)) (nonFiniteFrom 15 (from + count) (take count b))
-two-fronts from count a b h = non-finite-append 15 from (take count a) (take count b) (from + count) (omega arith) (rw (length-take-le count a h))
-
-four-parts : (u v w s : List Float) (i j k : ℕ) → i ≡ length u → j ≡ i + length v → k ≡ j + length w
-    → firstNonFinite 15 (u ++ (v ++ (w ++ s))) ≡ orElse (nonFiniteFrom 15 0 u) (orElse (nonFiniteFrom 15 i v) (orElse (nonFiniteFrom 15 j w) (nonFiniteFrom 15 k s)))
-four-parts u v w s i j k ei ej ek =
-    rw (
-      ← non-finite-zero,
-      non-finite-append 15 0 u (v ++ (w ++ s)) i (omega arith) (rw zero-add ei),
-      non-finite-append 15 i v (w ++ s) j (omega arith) ej,
-      non-finite-append 15 j w s k (omega arith) ek,
-    )
-
--- 15 list after list: the injections, the flows at the from end, those at the to end, the objectives
-pub listed-fault : (n m : ℕ) (p q pf qf pt qt s : List Float) → n ≤ length p → n ≤ length q → m ≤ length pf → m ≤ length qf → m ≤ length pt → m ≤ length qt
-    → firstNonFinite 15 (listed n m p q pf qf pt qt ++ s)
-    ≡ orElse (nonFiniteFrom 15 0 (take n p ++ take n q)) (orElse (nonFiniteFrom 15 (2 * n) (take m pf ++ take m qf))
-    (orElse (nonFiniteFrom 15 (2 * n + 2 * m) (take m pt ++ take m qt)) (nonFiniteFrom 15 (2 * n + 4 * m) s)))
-listed-fault n m p q pf qf pt qt s hp hq h1 h2 h3 h4 =
-    ap (firstNonFinite 15) regroup ∙ four-parts (take n p ++ take n q) (take m pf ++ take m qf) (take m pt ++ take m qt) s (2 * n) (2 * n + 2 * m) (2 * n + 4 * m)
-    (simp (length-append, length-take-le n p hp, length-take-le n q hq) (omega arith))
-    (simp (length-append, length-take-le m pf h1, length-take-le m qf h2) (omega arith))
-    (simp (length-append, length-take-le m pt h3, length-take-le m qt h4) (omega arith))
-  where
-    regroup : listed n m p q pf qf pt qt ++ s ≡ (take n p ++ take n q) ++ ((take m pf ++ take m qf) ++ ((take m pt ++ take m qt) ++ s))
-    regroup = simp append-assoc
+-- the front of a list, then another list
+pub front-then : (l s : List Float) (count : ℕ) → count ≤ length l
+    → firstNonFinite 15 (take count l ++ s) ≡ orElse (nonFiniteFrom 15 0 (take count l)) (nonFiniteFrom 15 count s)
+front-then l s count h =
+    sym (non-finite-zero 15 (take count l ++ s)) ∙ non-finite-append 15 0 (take count l) s count (omega arith) (omega (arith, length-take-le count l h))

@@ -1,33 +1,52 @@
--- What the check's inner functions say of the scratch lists: demands and flows, the outputs as they stand there, and the first that is not finite.
-use mathlib.Core.List.{List, _++_}
-use Prim.Native.Nat.{ℕ, _+_, _*_}
-use lib.ListN.{length, getD, take}
+-- What the check's scratch holds: each bus's voltage in one list, and in another the outputs in their order.
+use mathlib.Core.List.{List}
+use mathlib.Core.Path.{_≡_}
+use Prim.Native.Nat.{ℕ, _+_, _*_, _≤_}
+use lib.ListN.{length, getD}
 use lib.Ieee.{Float, nan, neg}
 use Rattle.base.specs.declared.Fault.{Fault}
 use Rattle.base.specs.Fault.{fault, unless, first}
 use Rattle.float.specs.Number.{_⊕_, _⊖_, _⊗_, isFinite}
-use Rattle.network.specs.Network.{number}
-use Rattle.derived.specs.Agree.{Agrees}
-use Rattle.derived.specs.Outputs.{flows, pFrom, qFrom, pTo, qTo}
+use Rattle.network.specs.Limits.{mostBuses, mostBranches}
+use Rattle.network.specs.Network.{pD, qD, gS, bS}
+use Rattle.network.specs.declared.layout.Layout.{Layout}
+use Rattle.acopf.specs.Flow.{re, im, voltage}
+use Rattle.derived.specs.Agree.{At, PerBus}
+use Rattle.derived.specs.Outputs.{vm, pInjection, qInjection, ownObjective, flows, pFrom, qFrom, pTo, qTo}
 
--- what bus i takes, before any generator or branch: its demand, and its shunt at the voltage's square. n is the number of buses.
-module _ (xs x : List Float) (n i : ℕ) where
+-- two numbers for each bus and four for each branch, so never more than 2,560
+abbrev pub mostOutputs : ℕ
+mostOutputs = 2 * mostBuses + 4 * mostBranches
+
+-- the real part of each bus's voltage, then the imaginary part of each
+abbrev pub VoltagesAre : List ℕ → List Float → Layout → List Float → Type 0
+VoltagesAre ws x l = PerBus (l .buses) (l .buses) (λ i. re (voltage ws x i)) (λ i. im (voltage ws x i))
+
+-- what bus i takes, before any generator or branch: its demand, and its shunt at the voltage's square
+module _ (ws : List ℕ) (xs x : List Float) (i : ℕ) where
   abbrev pub pDemand : Float
-  pDemand = neg (number xs (8 * i)) ⊖ number xs (8 * i + 2) ⊗ (number x (n + i) ⊗ number x (n + i))
+  pDemand = neg (pD ws xs i) ⊖ gS ws xs i ⊗ (vm ws x i ⊗ vm ws x i)
 
   abbrev pub qDemand : Float
-  qDemand = neg (number xs (8 * i + 1)) ⊕ number xs (8 * i + 3) ⊗ (number x (n + i) ⊗ number x (n + i))
+  qDemand = neg (qD ws xs i) ⊕ bS ws xs i ⊗ (vm ws x i ⊗ vm ws x i)
 
--- four lists that hold the flows of the first `count` branches
-pub record FlowsAre (ws : List ℕ) (xs x : List Float) (count : ℕ) (pf qf pt qt : List Float) : Type 0 where
-  pub p-from : Agrees count (pFrom (flows ws xs x)) pf
-  pub q-from : Agrees count (qFrom (flows ws xs x)) qf
-  pub p-to : Agrees count (pTo (flows ws xs x)) pt
-  pub q-to : Agrees count (qTo (flows ws xs x)) qt
+-- the injections of n buses are the list's first 2n numbers
+abbrev pub InjectionsAre : List ℕ → List Float → List Float → Layout → List Float → Type 0
+InjectionsAre ws xs x l = PerBus (l .buses) (l .buses) (pInjection ws xs x) (qInjection ws xs x)
 
--- the outputs' order: n of p and q each, then m of each flow
-abbrev pub listed : (n m : ℕ) (p q pf qf pt qt : List Float) → List Float
-listed n m p q pf qf pt qt = take n p ++ take n q ++ take m pf ++ take m qf ++ take m pt ++ take m qt
+-- behind them, fs being the flows: those of the first `count` of m branches, all p_from, all q_from, all p_to, all q_to
+pub record FlowsAre (fs : List (List Float)) (n m count : ℕ) (l : List Float) : Type 0 where
+  pub p-from : At count (λ b. 2 * n + b) (pFrom fs) l
+  pub q-from : At count (λ b. 2 * n + m + b) (qFrom fs) l
+  pub p-to : At count (λ b. 2 * n + 2 * m + b) (pTo fs) l
+  pub q-to : At count (λ b. 2 * n + 3 * m + b) (qTo fs) l
+
+-- the list's front is the outputs of the point x, and `own` is its objective
+pub record Held (ws : List ℕ) (xs x : List Float) (l : Layout) (list : List Float) (own : Float) : Type 0 where
+  pub room : 2 * l .buses + 4 * l .branches ≤ length list
+  pub injections-are : InjectionsAre ws xs x l list
+  pub flows-are : FlowsAre (flows ws xs x) (l .buses) (l .branches) (l .branches) list
+  pub own-is : own ≡ ownObjective ws xs x
 
 -- the first that is not finite, where the list's place 0 counts as place `from`
 unfoldable pub nonFiniteFrom : ℕ → ℕ → List Float → Fault

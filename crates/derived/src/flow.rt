@@ -1,57 +1,50 @@
 // The flows of every branch, at both ends.
+use acopf::numeric_branch_flow;
+use network::Layout;
+use network::branch_of;
 ghost use mathlib.Core.Path.{_≡_};
-ghost use Prim.Native.Nat.{_<_, _≤_};
+ghost use mathlib.Core.List.{List};
+ghost use Prim.Native.Nat.{_+_, _*_, _<_, _≤_};
+ghost use lib.Ieee.{Float};
 ghost use lib.ListN.{length};
-ghost use Rattle.network.specs.Network.{buses, generators, branches, branchAt};
+ghost use Rattle.network.specs.Layout.{Laid};
 ghost use Rattle.acopf.specs.Flow.{flow};
-ghost use Rattle.derived.specs.Agree.{Ready};
-ghost use Rattle.derived.specs.Scratch.{FlowsAre};
+ghost use Rattle.derived.specs.Outputs.{flows};
+ghost use Rattle.derived.specs.Scratch.{VoltagesAre, FlowsAre};
 
-// The flows of branch b, whose numbers start at `at`.
-fn flow_of(
-    words: &[u32],
-    numbers: &[f64],
-    point: &[f64],
-    n: usize,
-    k: usize,
-    b: usize,
-    at: usize,
-) -> [f64; 4]
-    requires { ⌜ (Ready (now words) (now numbers) (now point)) × (n ≡ buses (now words)) × (k ≡ generators (now words)) × (b < branches (now words)) × (at ≡ branchAt (now words) b) ⌝ }
-    ensures { λ r. ⌜ r ≡ flow (now (words .entry)) (now (numbers .entry)) (now (point .entry)) b ⌝ }
+// The flows of branch b, whichever point the voltages are of.
+fn flow_of(words: &[u32], numbers: &[f64], layout: Layout, voltages: &[f64], b: usize) -> [f64; 4]
+    requires { ⌜ (Laid (now words) (now numbers) layout) × (2 * layout .buses ≤ length (now voltages)) × (b < layout .branches) ⌝ }
+    ensures { λ r. ⌜ (let ws = now (words .entry) in let xs = now (numbers .entry) in
+        ((x : List Float) → VoltagesAre ws x layout (now (voltages .entry)) → r ≡ flow ws xs x b)) ⌝ }
 {
-    let w = words[1 + n + k + b];
-    let f = network::branch_from(w);
-    let t = network::branch_to(w);
-    acopf::numeric_branch_flow(numbers, at, point[n + f], point[f], point[n + t], point[t])
+    let n = layout.buses;
+    let branch = branch_of(words, numbers, layout, b);
+    let f = branch.from;
+    let t = branch.to;
+    numeric_branch_flow(
+        branch,
+        [voltages[f], voltages[n + f]],
+        [voltages[t], voltages[n + t]],
+    )
 }
 
-pub fn flows(
-    words: &[u32],
-    numbers: &[f64],
-    point: &[f64],
-    n: usize,
-    k: usize,
-    m: usize,
-    p_from: &mut [f64],
-    q_from: &mut [f64],
-    p_to: &mut [f64],
-    q_to: &mut [f64],
-)
-    requires { ⌜ (Ready (now words) (now numbers) (now point)) × (n ≡ buses (now words)) × (k ≡ generators (now words)) × (m ≡ branches (now words))
-        × (m ≤ length (now «p_from»)) × (m ≤ length (now «q_from»)) × (m ≤ length (now «p_to»)) × (m ≤ length (now «q_to»)) ⌝ }
-    ensures { λ r. ⌜ FlowsAre (now (words .entry)) (now (numbers .entry)) (now (point .entry)) (branches (now (words .entry))) (now («p_from» .exit)) (now («q_from» .exit)) (now («p_to» .exit)) (now («q_to» .exit)) ⌝ }
+// Writes the flows where they stand among the outputs.
+pub fn flows(words: &[u32], numbers: &[f64], layout: Layout, voltages: &[f64], list: &mut [f64])
+    requires { ⌜ (Laid (now words) (now numbers) layout) × (2 * layout .buses ≤ length (now voltages))
+        × (2 * layout .buses + 4 * layout .branches ≤ length (now list)) ⌝ }
+    ensures { λ r. ⌜ (let ws = now (words .entry) in let xs = now (numbers .entry) in let n = layout .buses in let m = layout .branches in
+        ((x : List Float) → VoltagesAre ws x layout (now (voltages .entry)) → FlowsAre (flows ws xs x) n m m (now (list .exit)))) ⌝ }
 {
-    // The branches' numbers end the list.
-    let mut at = numbers.len() - 11 * m;
+    let m = layout.branches;
+    let first = 2 * layout.buses;
     let mut b = 0usize;
     while b < m {
-        let flow = flow_of(words, numbers, point, n, k, b, at);
-        p_from[b] = flow[0];
-        q_from[b] = flow[1];
-        p_to[b] = flow[2];
-        q_to[b] = flow[3];
-        at += 11;
+        let flow = flow_of(words, numbers, layout, voltages, b);
+        list[first + b] = flow[0];
+        list[first + m + b] = flow[1];
+        list[first + 2 * m + b] = flow[2];
+        list[first + 3 * m + b] = flow[3];
         b += 1;
     }
 }

@@ -1,4 +1,4 @@
-// What validate_primal works out from a point: flows, injections, balances, the objective and the outputs; refusal 15.
+// What validate_primal works out from a point: voltages, flows, injections, balances, the objective and the outputs; refusal 15.
 mod bus;
 mod cost;
 mod finite;
@@ -7,8 +7,16 @@ mod write;
 
 pub use bus::balances;
 pub use bus::injections;
+pub use bus::voltages;
 pub use cost::own_objective;
 pub use finite::derived_fault;
 pub use finite::first_non_finite;
 pub use flow::flows;
-pub use write::write_outputs;
+use network::MOST_BRANCHES;
+use network::MOST_BUSES;
+pub use write::copy_front;
+
+// Two numbers for each bus, and four for each branch.
+pub const MOST_PER_BUS: usize = 2 * MOST_BUSES;
+
+pub const MOST_OUTPUTS: usize = 2 * MOST_BUSES + 4 * MOST_BRANCHES;

@@ -13,8 +13,8 @@ use Rattle.base.specs.declared.Fault.{Fault}
 use Rattle.float.specs.Doubles.{Doubles}
 use Rattle.network.specs.Fault.{faultWords, faultSize, faultCount, faultBlank, faultCurve, faultShift, faultBounds, faultBranches, faultTables, wordsFault, formFault}
 use Rattle.network.specs.Limits.{generatorNumbers, pointNumbers, branchNumbers, mostPoints}
-use Rattle.network.specs.Network.{generators, generatorPlace, branchPlace, points, branchAt, needed}
-use Rattle.network.specs.Word.{generatorBus, generatorBounded, generatorPoints, branchFrom, branchTo, branchAngled, branchLimited}
+use Rattle.network.specs.Network.{generators, generatorPlace, branchPlace, referencePlace, points, referred, branchAt, needed}
+use Rattle.network.specs.Word.{generatorBus, generatorBounded, generatorPoints, branchFrom, branchTo, branchAngled, branchLimited, referenceBus}
 use Rattle.network.specs.declared.layout.Layout.{Layout}
 use Rattle.network.specs.declared.formed.Form.{Form}
 use Rattle.network.specs.declared.records.Generator.{Generator}
@@ -131,6 +131,13 @@ module _ {ws : List ℕ} {l : Layout} (L : LaidWords ws l) where
 
   pub branch-word : (b : ℕ) → l .«branch_words» + b ≡ branchPlace ws b
   branch-word b = rw (L .is)
+
+  -- the bus of reference r, by its word
+  pub reference-read : {r bus : ℕ} → r < l .references → bus ≡ referenceBus (getD ws (l .«reference_words» + r) 0) → (bus ≡ referred ws r) × (bus < l .buses)
+  reference-read {r} {bus} h e =
+      let w : l .«reference_words» + r ≡ referencePlace ws r = rw (L .is) in
+      let q : bus ≡ referred ws r = rw w at e in
+      (q, rw q (L .reference-bus r h))
 
   -- the numbers of the generator at the cursor end before the branches'
   pub cursor-ends : {c : Cursor} {p : ℕ} → Standing ws l c → c .index < l .generators → p ≡ generatorPoints (getD ws (l .«generator_words» + c .index) 0)

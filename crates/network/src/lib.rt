@@ -47,6 +47,7 @@ pub use records::Generator;
 pub use records::branch_of;
 pub use records::bus_of;
 pub use records::generator_of;
+pub use records::reference_of;
 pub use sizes::Sizes;
 pub use sizes::sizes_of;
 pub use tables::tables_fault;

@@ -12,11 +12,13 @@ use crate::word::bus_bounded;
 use crate::word::generator_bounded;
 use crate::word::generator_bus;
 use crate::word::generator_points;
+use crate::word::reference_bus;
 ghost use mathlib.Core.Path.{_≡_};
 ghost use Prim.Native.Nat.{_+_, _<_, _≤_};
 ghost use lib.ListN.{length};
 ghost use Rattle.network.specs.Limits.{busNumbers, generatorNumbers, branchNumbers};
-ghost use Rattle.network.specs.Layout.{Laid, Standing, busAtPlace, generatorAtPlace, branchAtPlace, busRecord, GeneratorRead, BranchRead};
+ghost use Rattle.network.specs.Network.{referred};
+ghost use Rattle.network.specs.Layout.{LaidWords, Laid, Standing, busAtPlace, generatorAtPlace, branchAtPlace, busRecord, GeneratorRead, BranchRead};
 
 pub struct Bus {
     pub bounded: bool,
@@ -191,4 +193,13 @@ pub fn branch_of(words: &[u32], numbers: &[f64], layout: Layout, b: usize) -> Br
         branch_angled(w),
         branch_limited(w),
     )
+}
+
+// The bus of reference r.
+pub fn reference_of(words: &[u32], layout: Layout, r: usize) -> usize
+    requires { ⌜ (LaidWords (now words) layout) × (r < layout .references) ⌝ }
+    ensures { λ bus. ⌜ (bus ≡ referred (now (words .entry)) r) × (bus < layout .buses) ⌝ }
+{
+    let first = layout.reference_words;
+    reference_bus(words[first + r])
 }

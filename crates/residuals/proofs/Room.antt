@@ -1,94 +1,103 @@
 -- One turn of each loop of the residuals, in the code's terms: every index is in range, and what the turn adds is the definition's.
-use mathlib.Core.Path.{_≡_, sym, _∙_}
-use mathlib.Core.Bool.{Bool, true, cond, not, _&&_}
-use mathlib.Core.List.{List, [], _∷_}
+use mathlib.Core.Path.{_≡_, sym, ap, _∙_}
+use mathlib.Core.Bool.{Bool, true, cond, _&&_}
+use mathlib.Core.List.{List, [], _∷_, _++_}
 use Prim.Native.Nat.{ℕ, _+_, _-_, _*_, _≤_, _<_}
 use native.Mathlib.Omega.{arith}
-use lib.Dec.{eqb}
-use lib.Ieee.{Float, lt}
-use lib.ListN.{length, getD}
+use lib.Ieee.{Float, neg, lt}
+use lib.ListN.{length, getD, take, drop}
 use Rattle.base.proofs.Loops.{tally-counts, tally-le}
 use Rattle.float.specs.Number.{_⊖_, _⊘_, absolute, maximum, zero64, one64}
 use Rattle.fdlibm.specs.Hypot.{hypotenuse}
-use Rattle.network.specs.Bounds.{positiveViolation}
-use Rattle.network.specs.Network.{buses, generators, branches, references, referred, costs, from, to, angled, curved, epigraphsBefore, generatorAt, branchAt, columns, number, angleMin, angleMax, sMax}
-use Rattle.network.specs.Word.{generatorPoints, branchFrom, branchTo, branchAngled, branchLimited}
-use Rattle.network.proofs.Good.{Good}
+use Rattle.network.specs.Bounds.{huge64, positiveViolation}
+use Rattle.network.specs.Network.{buses, generators, branches, from, to, angled, curved, epigraphsBefore, columns, number, angleMin, angleMax, sMax}
+use Rattle.network.specs.Word.{branchLimited}
+use Rattle.network.specs.declared.layout.Layout.{Layout}
+use Rattle.network.specs.declared.records.Bus.{Bus}
+use Rattle.network.specs.declared.records.Generator.{Generator}
+use Rattle.network.specs.declared.records.Branch.{Branch}
+use Rattle.network.specs.Layout.{busRecord, Laid, GeneratorRead, BranchRead}
+use Rattle.network.proofs.Form.{branch-word}
+use Rattle.acopf.specs.Columns.{vmLower, vmUpper}
 use Rattle.acopf.specs.Curve.{evaluate, curveValue}
 use Rattle.acopf.specs.Rows.{rated}
-use Rattle.derived.specs.Agree.{Agrees, Ready}
-use Rattle.derived.specs.Outputs.{va, pg, epigraph, pFrom, qFrom, pTo, qTo, ownObjective, withdrawn, pInjection, qInjection, flows}
+use Rattle.derived.specs.Agree.{PerBus, Ready}
+use Rattle.derived.specs.Outputs.{va, pg, epigraph, ownObjective, withdrawn, pInjection, qInjection, pFrom, qFrom, pTo, qTo, flows}
+use Rattle.derived.specs.Scratch.{FlowsAre, Held}
+use Rattle.derived.proofs.Scratch.{per-bus-copied}
 use Rattle.residuals.specs.Residuals.{largest, largestWhere, pBalance, qBalance, activeBalance, reactiveBalance, variableBounds, referenceAngles, angleLimits, thermalLimits, epigraphs, objectiveDifference, residuals}
+use Rattle.residuals.specs.Section.{generatorLower, generatorUpper}
+use Rattle.residuals.specs.Derived.{Balanced}
 use Rattle.residuals.proofs.Section.{where-next, where-same}
-use Rattle.derived.specs.Scratch.{FlowsAre}
-use Rattle.residuals.specs.Derived.{Derived}
 
-pub point-length : {ws : List ℕ} {xs x : List Float} → Ready ws xs x → length x ≡ 2 * buses ws + 2 * generators ws + epigraphsBefore ws (generators ws)
+pub point-length : {ws : List ℕ} {xs x : List Float} {l : Layout} → Ready ws xs x l
+    → length x ≡ 2 * l .buses + 2 * l .generators + epigraphsBefore ws (l .generators)
 unfolding columns
-point-length ready = ready .given
+point-length R = rw (R .laid .words .is) (R .given)
 
 -- ---- a branch
-
--- the ends' angles are in the point
-module _ (ws : List ℕ) (xs x : List Float) (n k b : ℕ) (counted : n ≡ buses ws) (generated : k ≡ generators ws) (ready : Ready ws xs x) (its : b < branches ws) where
-  pub from-room : branchFrom (getD ws (1 + n + k + b) 0) < length x
-  from-room = rw (counted, generated) (omega (arith, point-length ready, ready .good .branch-from b its))
-
-  pub to-room : branchTo (getD ws (1 + n + k + b) 0) < length x
-  to-room = rw (counted, generated) (omega (arith, point-length ready, ready .good .branch-to b its))
 
 -- what a branch adds to residual 5
 abbrev pub angleOff : List ℕ → List Float → List Float → ℕ → Float
 angleOff ws xs x b = positiveViolation (va ws x (from ws b) ⊖ va ws x (to ws b)) (angleMin ws xs b) (angleMax ws xs b)
 
--- and to residual 6, for flows that stand in four lists
-abbrev pub flowOff : List ℕ → List Float → List Float → List Float → List Float → List Float → ℕ → Float
-flowOff ws xs pf qf pt qt b = maximum (maximum (hypotenuse (number pf b) (number qf b)) (hypotenuse (number pt b) (number qt b)) ⊖ sMax ws xs b) zero64
+-- and to residual 6, for flows of m branches that stand in a list behind 2n numbers
+abbrev pub flowOff : List ℕ → List Float → ℕ → ℕ → List Float → ℕ → Float
+flowOff ws xs n m s b =
+    maximum (maximum (hypotenuse (number s (2 * n + b)) (number s (2 * n + m + b))) (hypotenuse (number s (2 * n + 2 * m + b)) (number s (2 * n + 3 * m + b))) ⊖ sMax ws xs b) zero64
 
-module _ (ws : List ℕ) (xs : List Float) (n k at b : ℕ) (most next : Float) (counted : n ≡ buses ws) (generated : k ≡ generators ws) (here : at ≡ branchAt ws b) where
+module _ {ws : List ℕ} {xs : List Float} {l : Layout} {b : ℕ} {r : Branch} {most next : Float} (B : BranchRead ws xs l b r) where
   pub angle-turn : (x : List Float) → most ≡ largestWhere b (angled ws) (angleOff ws xs x)
-      → next ≡ cond (branchAngled (getD ws (1 + n + k + b) 0))
-      (maximum most (positiveViolation (number x (branchFrom (getD ws (1 + n + k + b) 0)) ⊖ number x (branchTo (getD ws (1 + n + k + b) 0))) (number xs (at + 8)) (number xs (at + 9)))) most
+      → next ≡ cond (r .angled) (maximum most (positiveViolation (number x (r .from) ⊖ number x (r .to)) (r .«angle_min») (r .«angle_max»))) most
       → next ≡ largestWhere (b + 1) (angled ws) (angleOff ws xs x)
-  angle-turn x e h = where-next (angled ws) (angleOff ws xs x) b most next e (rw (here, counted, generated) at h)
+  angle-turn x e h = where-next (angled ws) (angleOff ws xs x) b most next e (h ∙ rw (B .is))
 
-  pub thermal-turn : (pf qf pt qt : List Float) → most ≡ largestWhere b (rated ws xs) (flowOff ws xs pf qf pt qt)
-      → next ≡ cond (branchLimited (getD ws (1 + n + k + b) 0) && lt zero64 (number xs (at + 10)))
-      (maximum most (maximum (maximum (hypotenuse (number pf b) (number qf b)) (hypotenuse (number pt b) (number qt b)) ⊖ number xs (at + 10)) zero64)) most
-      → next ≡ largestWhere (b + 1) (rated ws xs) (flowOff ws xs pf qf pt qt)
-  thermal-turn pf qf pt qt e h = where-next (rated ws xs) (flowOff ws xs pf qf pt qt) b most next e (rw (here, counted, generated) at h)
+  pub thermal-turn : Laid ws xs l → (n m : ℕ) (s : List Float) → most ≡ largestWhere b (rated ws xs) (flowOff ws xs n m s)
+      → next ≡ cond (branchLimited (getD ws (l .«branch_words» + b) 0) && lt zero64 (r .«s_max»))
+      (maximum most (maximum (maximum (hypotenuse (number s (2 * n + b)) (number s (2 * n + m + b))) (hypotenuse (number s (2 * n + 2 * m + b)) (number s (2 * n + 3 * m + b))) ⊖ r .«s_max») zero64)) most
+      → next ≡ largestWhere (b + 1) (rated ws xs) (flowOff ws xs n m s)
+  thermal-turn L n m s e h = where-next (rated ws xs) (flowOff ws xs n m s) b most next e (h ∙ rw (branch-word (L .words) b, B .is))
 
--- the lists hold the flows fs
-pub thermal-is : (ws : List ℕ) (xs x pf qf pt qt : List Float) (fs : List (List Float)) (m : ℕ) (most : Float) → m ≡ branches ws → most ≡ largestWhere m (rated ws xs) (flowOff ws xs pf qf pt qt)
-    → Agrees m (pFrom fs) pf → Agrees m (qFrom fs) qf → Agrees m (pTo fs) pt → Agrees m (qTo fs) qt → most ≡ thermalLimits ws xs x fs
+-- the list holds the flows fs
+pub thermal-is : (ws : List ℕ) (xs x s : List Float) (fs : List (List Float)) (n m : ℕ) (most : Float) → m ≡ branches ws
+    → most ≡ largestWhere m (rated ws xs) (flowOff ws xs n m s) → FlowsAre fs n m m s → most ≡ thermalLimits ws xs x fs
 unfolding thermalLimits
-thermal-is ws xs x pf qf pt qt fs m most e h a b c d =
-    rw (← e) (h ∙ where-same m (rated ws xs) _ _ (λ j l. rw (a j l, b j l, c j l, d j l)))
+thermal-is ws xs x s fs n m most e h F =
+    rw (← e) (h ∙ where-same m (rated ws xs) _ _ (λ j q. rw (F .p-from j q, F .q-from j q, F .p-to j q, F .q-to j q)))
 
--- ---- a generator
+-- ---- a bus, a generator
+
+pub vm-turn : (ws : List ℕ) (xs : List Float) (i : ℕ) {r : Bus} (v : Float) → r ≡ busRecord ws xs i
+    → positiveViolation v (cond (r .bounded) (r .«vm_min») zero64) (cond (r .bounded) (r .«vm_max») huge64) ≡ positiveViolation v (vmLower ws xs i) (vmUpper ws xs i)
+unfolding vmLower vmUpper
+vm-turn ws xs i v e = rw e
 
 -- what a generator adds to residual 7
 abbrev pub epigraphOff : List ℕ → List Float → List Float → ℕ → Float
 epigraphOff ws xs x g = maximum (curveValue ws xs g (pg ws x g) ⊖ epigraph ws x g) zero64
 
-module _ (ws : List ℕ) (xs x : List Float) (n k g p : ℕ) (counted : n ≡ buses ws) (generated : k ≡ generators ws) (its : p ≡ generatorPoints (getD ws (1 + n + g) 0)) where
-  pub curve-room : (at : ℕ) → at ≡ generatorAt ws g → Good ws xs → g < k → at + 9 + 2 * p ≤ length xs
-  curve-room at here good l = rw (its, here, counted) (good .generator-fits g (omega arith))
+module _ {ws : List ℕ} {xs : List Float} {l : Layout} {g : ℕ} {r : Generator} (G : GeneratorRead ws xs l g r) where
+  pub bounds-turn : (active : Bool) (v lower upper : Float) → lower ≡ cond (r .bounded) (cond active (r .«p_min») (r .«q_min»)) (neg huge64)
+      → upper ≡ cond (r .bounded) (cond active (r .«p_max») (r .«q_max»)) huge64
+      → positiveViolation v lower upper ≡ positiveViolation v (generatorLower ws xs active g) (generatorUpper ws xs active g)
+  bounds-turn active v lower upper e h = rw (e, h, G .is)
 
-  module _ (curve header : Bool) (before : ℕ) (flagged : header ≡ costs ws) (tested : curve ≡ header && not (eqb p 0)) (placed : before ≡ epigraphsBefore ws g) where
-    has-curve : curve ≡ curved ws g
-    has-curve = rw (tested, flagged, its, counted)
+  pub epigraph-room : {x : List Float} {before : ℕ} → Ready ws xs x l → before ≡ epigraphsBefore ws g → g < l .generators → r .curved ≡ true
+      → 2 * l .buses + 2 * l .generators + before < length x
+  unfolding epigraphsBefore
+  epigraph-room R e h c = omega (arith, point-length R, e, tally-counts g (l .generators) (curved ws) (sym (ap (λ z. z .curved) (G .is)) ∙ c) h)
 
-    pub epigraph-room : Ready ws xs x → g < k → curve ≡ true → 2 * n + 2 * k + before < length x
-    unfolding epigraphsBefore
-    epigraph-room ready l h =
-        omega (arith, point-length ready, tally-counts g (generators ws) (curved ws) (sym has-curve ∙ h) (omega arith))
+  pub epigraph-turn : (x : List Float) {before : ℕ} {most next : Float} → Laid ws xs l → before ≡ epigraphsBefore ws g → most ≡ largestWhere g (curved ws) (epigraphOff ws xs x)
+      → next ≡ cond (r .curved)
+      (maximum most (maximum (evaluate xs (r .curve) (r .points - 1) (number x (2 * l .buses + g)) ⊖ number x (2 * l .buses + 2 * l .generators + before)) zero64)) most
+      → next ≡ largestWhere (g + 1) (curved ws) (epigraphOff ws xs x)
+  epigraph-turn x {before} {most} {next} L e f h =
+      where-next (curved ws) (epigraphOff ws xs x) g most next f (h ∙ rw (G .is, e, ap (λ z. z .buses) (L .words .is), ap (λ z. z .generators) (L .words .is)))
 
-    pub epigraph-turn : (at : ℕ) (most next : Float) → at ≡ generatorAt ws g → most ≡ largestWhere g (curved ws) (epigraphOff ws xs x)
-        → next ≡ cond curve (maximum most (maximum (evaluate xs (at + 9) (p - 1) (number x (2 * n + g)) ⊖ number x (2 * n + 2 * k + before)) zero64)) most
-        → next ≡ largestWhere (g + 1) (curved ws) (epigraphOff ws xs x)
-    epigraph-turn at most next here e h =
-        where-next (curved ws) (epigraphOff ws xs x) g most next e (rw (has-curve, placed, its, here, counted, generated) at h)
+-- the epigraph columns before a generator are at most the generators before it
+pub epigraphs-le : (ws : List ℕ) (g : ℕ) → epigraphsBefore ws g ≤ g
+unfolding epigraphsBefore
+epigraphs-le ws g = tally-le g _
 
 -- ---- what the residuals' functions say is the definitions'
 
@@ -105,33 +114,20 @@ pub difference-is : (ws : List ℕ) (xs x : List Float) (solver own r : Float) �
 unfolding objectiveDifference
 difference-is ws xs x solver own r e h = rw e at h
 
--- a reference's angle is in the point
-pub referred-room : {ws : List ℕ} {xs x : List Float} → Ready ws xs x → (r : ℕ) → r < references ws → referred ws r < length x
-referred-room ready r l = omega (arith, point-length ready, ready .good .reference-bus r l)
-
 pub residuals-are : (ws : List ℕ) (xs x : List Float) (fs : List (List Float)) (solver a b c d e f g h : Float) → a ≡ activeBalance ws xs x fs → b ≡ reactiveBalance ws xs x fs → c ≡ variableBounds ws xs x
     → d ≡ referenceAngles ws xs x → e ≡ angleLimits ws xs x → f ≡ thermalLimits ws xs x fs → g ≡ epigraphs ws xs x → h ≡ objectiveDifference ws xs x solver
     → a ∷ b ∷ c ∷ d ∷ e ∷ f ∷ g ∷ h ∷ [] ≡ residuals ws xs x fs solver
 unfolding residuals
 residuals-are ws xs x fs solver a b c d e f g h p q r s t u v w = rw (p, q, r, s, t, u, v, w)
 
--- the epigraph columns before a generator are at most the generators before it
-pub epigraphs-le : (ws : List ℕ) (g : ℕ) → epigraphsBefore ws g ≤ g
-unfolding epigraphsBefore
-epigraphs-le ws g = tally-le g _
-
--- the balances, from the injections, by what `balances` says of its list
-pub derived-are : (ws : List ℕ) (xs x : List Float) (n m : ℕ) (pf qf pt qt p q p′ q′ : List Float) (own : Float) → n ≡ buses ws → m ≡ branches ws
-    → FlowsAre ws xs x (branches ws) pf qf pt qt → Agrees (buses ws) (pInjection ws xs x) p → Agrees (buses ws) (qInjection ws xs x) q → own ≡ ownObjective ws xs x
-    → ((atFrom atTo start : ℕ → Float) → Agrees m atFrom pf → Agrees m atTo pt → Agrees n start p → Agrees n (λ i. withdrawn ws i atFrom atTo (start i)) p′)
-    → ((atFrom atTo start : ℕ → Float) → Agrees m atFrom qf → Agrees m atTo qt → Agrees n start q → Agrees n (λ i. withdrawn ws i atFrom atTo (start i)) q′)
-    → Derived ws xs x pf qf pt qt p′ q′ own
+-- the balances, from a copy of the injections, by what `balances` says of its list
+pub balanced : {ws : List ℕ} {xs x : List Float} {l : Layout} {own : Float} (scratch blank copy list : List Float) → Held ws xs x l scratch own
+    → copy ≡ take (2 * l .buses) scratch ++ drop (2 * l .buses) blank → 2 * l .buses ≤ length list
+    → ((fs : List (List Float)) (p q : ℕ → Float) → FlowsAre fs (l .buses) (l .branches) (l .branches) scratch → PerBus (l .buses) (l .buses) p q copy
+    → PerBus (l .buses) (l .buses) (λ i. withdrawn ws i (pFrom fs) (pTo fs) (p i)) (λ i. withdrawn ws i (qFrom fs) (qTo fs) (q i)) list)
+    → Balanced ws xs x l list
 unfolding pBalance qBalance
-derived-are ws xs x n m pf qf pt qt p q p′ q′ own en em F a b o f g =
-    let F′ = flows ws xs x in
-    record {
-      flows-are = F;
-      active = λ i l. f (pFrom F′) (pTo F′) (pInjection ws xs x) (λ j k. F .p-from j (omega arith)) (λ j k. F .p-to j (omega arith)) (λ j k. a j (omega arith)) i (omega arith);
-      reactive = λ i l. g (qFrom F′) (qTo F′) (qInjection ws xs x) (λ j k. F .q-from j (omega arith)) (λ j k. F .q-to j (omega arith)) (λ j k. b j (omega arith)) i (omega arith);
-      objective = o;
-    }
+balanced {ws} {xs} {x} {l} {own} scratch blank copy list H e k f = record {
+  room = k;
+  balances-are = f (flows ws xs x) (pInjection ws xs x) (qInjection ws xs x) (H .flows-are) (rw e (per-bus-copied scratch blank (omega (arith, H .room)) (H .injections-are)));
+}

@@ -1,6 +1,6 @@
 -- One turn of each loop that takes a largest; and the variable bounds, column by column, are those of the sections one after the other.
 use mathlib.Core.Path.{_≡_, refl, ap, sym, _∙_}
-use mathlib.Core.Bool.{Bool, cond}
+use mathlib.Core.Bool.{Bool, true, false, cond}
 use mathlib.Core.List.{List, _++_}
 use Prim.Native.Nat.{ℕ, zero, suc, _+_, _*_, _<_}
 use native.Mathlib.Nat.{add-zero, zero-add, add-suc}
@@ -12,7 +12,7 @@ use Rattle.base.specs.Loop.{loop, table}
 use Rattle.base.proofs.Loops.{length-table, Block, block-table, block-left, block-right}
 use Rattle.float.specs.Number.{maximum, zero64}
 use Rattle.network.specs.Bounds.{huge64, positiveViolation}
-use Rattle.network.specs.Network.{buses, generators, epigraphsBefore, generatorAt, columns, number}
+use Rattle.network.specs.Network.{buses, generators, epigraphsBefore, columns, number}
 use Rattle.acopf.specs.Columns.{vmLower, vmUpper, pgLower, pgUpper, qgLower, qgUpper, columnLower, columnUpper}
 use Rattle.residuals.specs.Residuals.{largest, largestWhere, variableBounds}
 use Rattle.residuals.specs.Section.{largestWith, outside, generatorLower, generatorUpper}
@@ -98,21 +98,21 @@ module _ (ws : List ℕ) (xs : List Float) where
   unfolding columnUpper
   upper-five = five-tables (buses ws) (generators ws) (epigraphsBefore ws (generators ws)) _ _ _ _ _
 
-  pg-lower : (g : ℕ) → pgLower ws xs g ≡ generatorLower ws xs 0 g
+  pg-lower : (g : ℕ) → pgLower ws xs g ≡ generatorLower ws xs true g
   unfolding pgLower
-  pg-lower g = rw add-zero
+  pg-lower g = refl
 
-  pg-upper : (g : ℕ) → pgUpper ws xs g ≡ generatorUpper ws xs 0 g
+  pg-upper : (g : ℕ) → pgUpper ws xs g ≡ generatorUpper ws xs true g
   unfolding pgUpper
-  pg-upper g = rw add-zero
+  pg-upper g = refl
 
-  qg-lower : (g : ℕ) → qgLower ws xs g ≡ generatorLower ws xs 2 g
+  qg-lower : (g : ℕ) → qgLower ws xs g ≡ generatorLower ws xs false g
   unfolding qgLower
   qg-lower g = refl
 
-  qg-upper : (g : ℕ) → qgUpper ws xs g ≡ generatorUpper ws xs 2 g
+  qg-upper : (g : ℕ) → qgUpper ws xs g ≡ generatorUpper ws xs false g
   unfolding qgUpper
-  qg-upper g = let e : generatorAt ws g + 2 + 1 ≡ generatorAt ws g + 3 = omega arith in rw e
+  qg-upper g = refl
 
 module _ (ws : List ℕ) (xs x : List Float) where
   abbrev whole : ℕ → Float
@@ -132,8 +132,8 @@ module _ (ws : List ℕ) (xs x : List Float) where
       ≡ largestWith (largestWith (largestWith (largestWith (largestWith zero64
       n (outside x 0 (λ i. neg huge64) (λ i. huge64)))
       n (outside x n (vmLower ws xs) (vmUpper ws xs)))
-      k (outside x (2 * n) (generatorLower ws xs 0) (generatorUpper ws xs 0)))
-      k (outside x (2 * n + k) (generatorLower ws xs 2) (generatorUpper ws xs 2)))
+      k (outside x (2 * n) (generatorLower ws xs true) (generatorUpper ws xs true)))
+      k (outside x (2 * n + k) (generatorLower ws xs false) (generatorUpper ws xs false)))
       e (outside x (2 * n + 2 * k) (λ i. neg huge64) (λ i. huge64))
   by-section n k e p q r =
       let low = lower-five ws xs in

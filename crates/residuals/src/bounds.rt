@@ -1,12 +1,18 @@
 // Residual 3, variable bounds: the columns by section, va, vm, pg, qg, epigraphs. Each section goes on from the largest before it.
-use columns::vm_lower;
-use columns::vm_upper;
+use network::Bus;
+use network::Layout;
+use network::bus_of;
+use network::first_generator;
+use network::generator_of;
+use network::next_generator;
+use network::positive_violation;
 ghost use mathlib.Core.Path.{_≡_};
+ghost use mathlib.Core.Bool.{cond};
 ghost use Prim.Native.Nat.{_+_, _≤_};
 ghost use lib.Ieee.{neg};
 ghost use lib.ListN.{length};
-ghost use Rattle.network.specs.Bounds.{huge64};
-ghost use Rattle.network.specs.Network.{buses, generators};
+ghost use Rattle.float.specs.Number.{zero64};
+ghost use Rattle.network.specs.Bounds.{huge64, positiveViolation};
 ghost use Rattle.acopf.specs.Columns.{vmLower, vmUpper};
 ghost use Rattle.derived.specs.Agree.{Ready};
 ghost use Rattle.residuals.specs.Residuals.{variableBounds};
@@ -20,79 +26,88 @@ fn free_bounds(point: &[f64], from: usize, count: usize, start: f64) -> f64
     let mut most = start;
     let mut j = 0usize;
     while j < count {
-        most = float::maximum(
-            most,
-            network::positive_violation(point[from + j], -1e19, 1e19),
-        );
+        most = float::maximum(most, positive_violation(point[from + j], -1e19, 1e19));
         j += 1;
     }
     most
 }
 
-fn vm_bounds(words: &[u32], numbers: &[f64], point: &[f64], n: usize, start: f64) -> f64
-    requires { ⌜ (Ready (now words) (now numbers) (now point)) × (n ≡ buses (now words)) ⌝ }
-    ensures { λ r. ⌜ r ≡ largestWith start n (outside (now (point .entry)) n (vmLower (now (words .entry)) (now (numbers .entry))) (vmUpper (now (words .entry)) (now (numbers .entry)))) ⌝ }
+// How far vm is outside the bus's bounds, which are 0 and 1e19 where its word has none active.
+fn vm_outside(bus: Bus, vm: f64) -> f64
+    ensures { λ r. ⌜ r ≡ positiveViolation vm (cond (bus .bounded) (bus .«vm_min») zero64) (cond (bus .bounded) (bus .«vm_max») huge64) ⌝ }
 {
+    if bus.bounded {
+        return positive_violation(vm, bus.vm_min, bus.vm_max);
+    }
+    positive_violation(vm, 0.0, 1e19)
+}
+
+fn vm_bounds(words: &[u32], numbers: &[f64], point: &[f64], layout: Layout, start: f64) -> f64
+    requires { ⌜ Ready (now words) (now numbers) (now point) layout ⌝ }
+    ensures { λ r. ⌜ (let ws = now (words .entry) in let xs = now (numbers .entry) in
+        r ≡ largestWith start (layout .buses) (outside (now (point .entry)) (layout .buses) (vmLower ws xs) (vmUpper ws xs))) ⌝ }
+{
+    let n = layout.buses;
     let mut most = start;
     let mut i = 0usize;
     while i < n {
-        let lower = vm_lower(words, numbers, i);
-        let upper = vm_upper(words, numbers, i);
-        most = float::maximum(
-            most,
-            network::positive_violation(point[n + i], lower, upper),
-        );
+        let bus = bus_of(words, numbers, layout, i);
+        most = float::maximum(most, vm_outside(bus, point[n + i]));
         i += 1;
     }
     most
 }
 
-// pg from column `from` on, with part 0; qg with part 2.
+// pg's where active, else qg's.
+fn picked(active: bool, pg: f64, qg: f64) -> f64
+    ensures { λ r. ⌜ r ≡ cond active pg qg ⌝ }
+{
+    if active {
+        return pg;
+    }
+    qg
+}
+
+// pg where active, else qg: the columns from `from` on.
 fn generator_bounds(
     words: &[u32],
     numbers: &[f64],
     point: &[f64],
-    n: usize,
-    k: usize,
+    layout: Layout,
+    active: bool,
     from: usize,
-    part: usize,
     start: f64,
 ) -> f64
-    requires { ⌜ (Ready (now words) (now numbers) (now point)) × (n ≡ buses (now words)) × (k ≡ generators (now words)) × (from + k ≤ length (now point)) × (part ≤ 2) ⌝ }
-    ensures { λ r. ⌜ r ≡ largestWith start k (outside (now (point .entry)) from (generatorLower (now (words .entry)) (now (numbers .entry)) part) (generatorUpper (now (words .entry)) (now (numbers .entry)) part)) ⌝ }
+    requires { ⌜ (Ready (now words) (now numbers) (now point) layout) × (from + layout .generators ≤ length (now point)) ⌝ }
+    ensures { λ r. ⌜ (let ws = now (words .entry) in let xs = now (numbers .entry) in
+        r ≡ largestWith start (layout .generators)
+        (outside (now (point .entry)) from (generatorLower ws xs active) (generatorUpper ws xs active))) ⌝ }
 {
     let mut most = start;
-    let mut at = 8 * n;
-    let mut g = 0usize;
-    while g < k {
-        let w = words[1 + n + g];
-        let bounded = network::generator_bounded(w);
-        let lower = factor::lower_bound(bounded, numbers[at + part]);
-        let upper = factor::upper_bound(bounded, numbers[at + part + 1]);
+    let mut cursor = first_generator(words, layout);
+    while cursor.index < layout.generators {
+        let g = generator_of(words, numbers, layout, cursor);
+        let lower = factor::lower_bound(g.bounded, picked(active, g.p_min, g.q_min));
+        let upper = factor::upper_bound(g.bounded, picked(active, g.p_max, g.q_max));
         most = float::maximum(
             most,
-            network::positive_violation(point[from + g], lower, upper),
+            positive_violation(point[from + cursor.index], lower, upper),
         );
-        at += 9 + 2 * network::generator_points(w);
-        g += 1;
+        cursor = next_generator(words, layout, cursor);
     }
     most
 }
 
-pub(crate) fn variable_bounds(
-    words: &[u32],
-    numbers: &[f64],
-    point: &[f64],
-    n: usize,
-    k: usize,
-) -> f64
-    requires { ⌜ (Ready (now words) (now numbers) (now point)) × (n ≡ buses (now words)) × (k ≡ generators (now words)) ⌝ }
+pub(crate) fn variable_bounds(words: &[u32], numbers: &[f64], point: &[f64], layout: Layout) -> f64
+    requires { ⌜ Ready (now words) (now numbers) (now point) layout ⌝ }
     ensures { λ r. ⌜ r ≡ variableBounds (now (words .entry)) (now (numbers .entry)) (now (point .entry)) ⌝ }
 {
+    let n = layout.buses;
+    let k = layout.generators;
     let va = free_bounds(point, 0, n, 0.0);
-    let vm = vm_bounds(words, numbers, point, n, va);
-    let pg = generator_bounds(words, numbers, point, n, k, 2 * n, 0, vm);
-    let qg = generator_bounds(words, numbers, point, n, k, 2 * n + k, 2, pg);
+    let vm = vm_bounds(words, numbers, point, layout, va);
+    let pg = generator_bounds(words, numbers, point, layout, true, 2 * n, vm);
+    let qg = generator_bounds(words, numbers, point, layout, false, 2 * n + k, pg);
     let from = 2 * n + 2 * k;
     free_bounds(point, from, point.len() - from, qg)
 }

@@ -1,19 +1,23 @@
 -- The check from its entry on: each refusal's way out, and what holds where 1 to 14 are clear.
 use mathlib.Core.Path.{_≡_, refl, ap, sym, _∙_}
 use mathlib.Core.List.{List}
-use Prim.Native.Nat.{ℕ, _+_, _*_, _≤_, _-_}
+use Prim.Native.Nat.{ℕ, _+_, _*_, _≤_, _<_, _-_}
 use native.Mathlib.Omega.{arith}
 use lib.ListN.{length, take}
 use lib.Ieee.{Float}
 use borrow.Author.Tests.{leb-true, eqb-true, eq-eqb, ne-eqb}
 use Rattle.base.specs.declared.Fault.{Fault}
-use Rattle.base.proofs.Firsts.{Clear, or-left, unless-true, or-go, unless-clear}
+use Rattle.base.proofs.Firsts.{Clear, or-left, or-right, unless-true, or-go, unless-clear}
 use Rattle.base.specs.Order.{numbersOf}
 use Rattle.base.proofs.Order.{other-number}
 use Rattle.base.proofs.Loops.{tally-le}
-use Rattle.network.specs.Network.{buses, generators, branches, curved, epigraphsBefore, columns}
-use Rattle.network.proofs.Good.{Good, good}
-use Rattle.network.specs.Fault.{faultTables}
+use Rattle.float.specs.Doubles.{Doubles}
+use Rattle.network.specs.Limits.{mostBuses, mostGenerators}
+use Rattle.network.specs.Network.{buses, branches, curved, epigraphsBefore, columns}
+use Rattle.network.specs.Fault.{faultWords, faultSize, faultTables}
+use Rattle.network.specs.declared.layout.Layout.{Layout}
+use Rattle.network.specs.Layout.{layoutOf, LaidWords, Laid}
+use Rattle.network.proofs.Form.{laid}
 use Rattle.acopf.specs.Factor.{faultFactor, networkSections, networkFault, firstNonFinite}
 use Rattle.acopf.proofs.Order.{network-is, network-refusal}
 use Rattle.validate.specs.declared.Checked.{Checked}
@@ -27,26 +31,27 @@ use Rattle.base.specs.Fault.{fault, unless}
 use Rattle.derived.specs.Scratch.{nonFiniteFrom}
 use Rattle.derived.proofs.NonFinite.{non-finite-zero}
 
-module _ (ws : List ℕ) where
-  pub columns-are : (n k count : ℕ) → n ≡ buses ws → k ≡ generators ws → count ≡ epigraphsBefore ws k → 2 * n + 2 * k + count ≡ columns ws
-  unfolding columns
-  columns-are n k count en ek ec = rw (ec, en, ek)
+pub columns-are : {ws : List ℕ} {l : Layout} (count : ℕ) → LaidWords ws l → count ≡ epigraphsBefore ws (l .generators)
+    → (2 * l .buses + 2 * l .generators + count ≡ columns ws) × (2 * l .buses + 2 * l .generators + count ≤ 2 * mostBuses + 3 * mostGenerators)
+unfolding columns epigraphsBefore
+columns-are {ws} {l} count L e =
+    (rw (e, L .is), omega (arith, e, L .few-buses, L .few-generators, tally-le (l .generators) (curved ws)))
 
 module _ (ws : List ℕ) (xs : List Float) where
-  pub network-good : Clear (networkFault ws xs) → Good ws xs
-  network-good c = good ws xs (or-left (faultTables ws xs) (faultFactor ws xs) (ap (λ f. f .number) (sym (network-is ws xs)) ∙ c))
-
   -- the numbers of the network's sections
   not-16 : (Clear (networkFault ws xs) → ⊥) → networkFault ws xs .number ≡ 16 → ⊥
   not-16 c = other-number (networkFault ws xs .number) 16 (numbersOf (networkSections ws xs)) (network-refusal ws xs c .has) refl
 
-  pub few-columns : Good ws xs → columns ws ≤ 1280
-  unfolding columns epigraphsBefore
-  few-columns g = omega (arith, g .few-buses, g .few-generators, tally-le (generators ws) (curved ws))
+  tables-of : Clear (networkFault ws xs) → Clear (faultTables ws xs)
+  tables-of clear = or-left (faultTables ws xs) (faultFactor ws xs) (ap (λ f. f .number) (sym (network-is ws xs)) ∙ clear)
 
-  pub buses-within : buses ws ≤ columns ws
-  unfolding columns
-  buses-within = omega arith
+  -- what a layout asks of the words
+  pub words-clear : Clear (networkFault ws xs) → Clear (faultWords ws) × Clear (faultSize ws)
+  unfolding faultTables
+  words-clear clear = let t = tables-of clear in (or-left _ _ t, or-left _ _ (or-right _ _ t))
+
+  pub network-laid : Clear (networkFault ws xs) → {l : Layout} → Doubles xs → l ≡ layoutOf ws → Laid ws xs l
+  network-laid clear D e = laid ws xs (tables-of clear) D e
 
   -- ---- the length of the outputs, from the network alone
 

@@ -2,9 +2,9 @@
 use mathlib.Core.Path.{_≡_, ap, sym, _∙_}
 use mathlib.Core.Bool.{not}
 use mathlib.Core.List.{List, [], _∷_, _++_}
-use Prim.Native.Nat.{ℕ, _+_, _*_, _≤_}
+use Prim.Native.Nat.{ℕ, _+_, _*_, _<_, _≤_}
 use native.Mathlib.Omega.{arith}
-use lib.ListN.{length, drop, getD}
+use lib.ListN.{length, take, drop, getD}
 use lib.Ieee.{Float, nan, lt}
 use borrow.Author.Tests.{eq-eqb, ne-eqb}
 use Rattle.base.specs.declared.Fault.{Fault}
@@ -15,12 +15,13 @@ use Rattle.acopf.specs.Factor.{firstNonFinite, networkFault}
 use Rattle.validate.specs.declared.Checked.{Checked}
 use Rattle.validate.specs.Check.{tolerances, Solved, solved, faultOutput, faultPoint, faultSwing, faultDerived, faultResidual, checkFault, checked, outputsAfter}
 use Rattle.network.specs.Network.{buses, branches}
-use Rattle.derived.specs.Agree.{Agrees}
-use Rattle.derived.specs.Outputs.{pInjection, qInjection, ownObjective, flows, outputs}
+use Rattle.network.specs.declared.layout.Layout.{Layout}
+use Rattle.network.specs.Layout.{Laid}
+use Rattle.derived.specs.Outputs.{ownObjective, flows, outputs}
+use Rattle.derived.specs.Scratch.{Held}
+use Rattle.derived.proofs.Scratch.{front-outputs}
 use Rattle.residuals.specs.Residuals.{residuals}
-use Rattle.derived.specs.Scratch.{FlowsAre, listed}
-use Rattle.validate.specs.Verdict.{Cleared, Held, refusal}
-use Rattle.derived.proofs.Scratch.{listed-outputs}
+use Rattle.validate.specs.Verdict.{Cleared, refusal}
 use Rattle.validate.proofs.Order.{derived-spans, residual-spans, check-is}
 use Rattle.derived.proofs.Outputs.{length-outputs}
 
@@ -95,22 +96,28 @@ module _ (ws : List ℕ) (xs x : List Float) (solver : Float) where
         let k : f ≡ checkFault ws xs x solver lent = e ∙ by-residual d in
         rw (← k, eq-eqb (f .number) 0 n, q, o)
 
--- ---- from the scratch lists
+-- ---- from the scratch list
 
-module _ {ws : List ℕ} {xs x : List Float} {n m : ℕ} {p q pf qf pt qt : List Float} {own : Float} (H : Held ws xs x n m p q pf qf pt qt own) where
-  outputs-are : listed n m p q pf qf pt qt ≡ outputs ws xs x (flows ws xs x)
-  outputs-are =
-      listed-outputs ws xs x n m p q pf qf pt qt (H .buses-are) (H .branches-are) (H .p-long) (H .q-long) (H .pf-long) (H .qf-long) (H .pt-long) (H .qt-long) (H .p-are) (H .q-are) (H .flows-are)
+module _ {ws : List ℕ} {xs x : List Float} {l : Layout} {scratch : List Float} {own : Float} (L : Laid ws xs l) (H : Held ws xs x l scratch own) where
+  n-is : l .buses ≡ buses ws
+  n-is = ap (λ z. z .buses) (L .words .is)
+
+  m-is : l .branches ≡ branches ws
+  m-is = ap (λ z. z .branches) (L .words .is)
+
+  outputs-are : take (2 * l .buses + 4 * l .branches) scratch ≡ outputs ws xs x (flows ws xs x)
+  outputs-are = front-outputs ws xs x (flows ws xs x) (l .buses) (l .branches) scratch n-is m-is (H .room) (H .injections-are) (H .flows-are)
 
   -- 15
-  pub derived-of : (solver : Float) (d : Fault) → d ≡ firstNonFinite 15 (listed n m p q pf qf pt qt ++ (solver ∷ own ∷ [])) → d ≡ faultDerived ws xs x solver (solved ws xs x solver)
+  pub derived-of : (solver : Float) (d : Fault) → d ≡ firstNonFinite 15 (take (2 * l .buses + 4 * l .branches) scratch ++ (solver ∷ own ∷ []))
+      → d ≡ faultDerived ws xs x solver (solved ws xs x solver)
   derived-of solver d is = is ∙ derived-is ws xs x solver own _ outputs-are (H .own-is)
 
 -- the three ways out
-module _ {ws : List ℕ} {xs x : List Float} {n m : ℕ} {p q pf qf pt qt : List Float} {own : Float} (H : Held ws xs x n m p q pf qf pt qt own) (solver : Float) (before : List Float)
-    (C : Cleared ws xs x solver (length before)) (d : Fault) (is : d ≡ firstNonFinite 15 (listed n m p q pf qf pt qt ++ (solver ∷ own ∷ []))) where
+module _ {ws : List ℕ} {xs x : List Float} {l : Layout} {scratch : List Float} {own : Float} (L : Laid ws xs l) (H : Held ws xs x l scratch own) (solver : Float) (before : List Float)
+    (C : Cleared ws xs x solver (length before)) (d : Fault) (is : d ≡ firstNonFinite 15 (take (2 * l .buses + 4 * l .branches) scratch ++ (solver ∷ own ∷ []))) where
   derived : d ≡ faultDerived ws xs x solver (solved ws xs x solver)
-  derived = derived-of H solver d is
+  derived = derived-of L H solver d is
 
   derived-clear : d .number ≡ 0 → Clear (faultDerived ws xs x solver (solved ws xs x solver))
   derived-clear z = ap (λ f. f .number) (sym derived) ∙ z
@@ -135,30 +142,10 @@ module _ {ws : List ℕ} {xs x : List Float} {n m : ℕ} {p q pf qf pt qt : List
   -- accepted
   pub says-0 : (f : Fault) (r after : List Float) → d .number ≡ 0 → r ≡ residuals ws xs x (flows ws xs x) solver
       → f ≡ first 8 (λ i. unless (not (lt (getD tolerances i nan) (getD r i nan))) (fault 16 (i + 1))) → f .number ≡ 0
-      → after ≡ listed n m p q pf qf pt qt ++ drop (2 * n + 4 * m) before
+      → after ≡ take (2 * l .buses + 4 * l .branches) scratch ++ drop (2 * l .buses + 4 * l .branches) before
       → (_≡_ {A = Checked} (record { number = 0; place = 0; objective = own; residuals = r }) (checked ws xs x solver (length before))) × (after ≡ outputsAfter ws xs x solver before)
   unfolding faultResidual solved
   says-0 f r after z e k c a =
       let g : f ≡ faultResidual ws xs x solver (solved ws xs x solver) = rw e at k in
       let h : Clear (checkFault ws xs x solver (length before)) = ap (λ y. y .number) (sym (g ∙ by-residual ws xs x solver (length before) C (derived-clear z))) ∙ c in
-      (accepted-answer ws xs x solver (length before) C f r own (derived-clear z) g c e (H .own-is), a ∙ outputs-left ws xs x solver n m _ before (H .buses-are) (H .branches-are) (outputs-are H) h)
-
-pub held : (ws : List ℕ) (xs x : List Float) (n m : ℕ) (p q pf qf pt qt : List Float) (own : Float) → n ≡ buses ws → m ≡ branches ws
-    → n ≤ length p → n ≤ length q → m ≤ length pf → m ≤ length qf → m ≤ length pt → m ≤ length qt
-    → Agrees (buses ws) (pInjection ws xs x) p → Agrees (buses ws) (qInjection ws xs x) q → FlowsAre ws xs x (branches ws) pf qf pt qt → own ≡ ownObjective ws xs x
-    → Held ws xs x n m p q pf qf pt qt own
-held ws xs x n m p q pf qf pt qt own en em hp hq h1 h2 h3 h4 a b f o =
-    record {
-      buses-are = en;
-      branches-are = em;
-      p-long = hp;
-      q-long = hq;
-      pf-long = h1;
-      qf-long = h2;
-      pt-long = h3;
-      qt-long = h4;
-      p-are = a;
-      q-are = b;
-      flows-are = f;
-      own-is = o;
-    }
+      (accepted-answer ws xs x solver (length before) C f r own (derived-clear z) g c e (H .own-is), a ∙ outputs-left ws xs x solver (l .buses) (l .branches) _ before (n-is L H) (m-is L H) (outputs-are L H) h)

@@ -6,21 +6,25 @@ use crate::point::point_fault;
 use crate::point::swing_fault;
 use crate::tolerance::residual_fault;
 use base::Fault;
+use derived::MOST_OUTPUTS;
+use derived::MOST_PER_BUS;
+use derived::copy_front;
 use derived::derived_fault;
 use derived::flows;
 use derived::injections;
 use derived::own_objective;
-use derived::write_outputs;
+use derived::voltages;
 use factor::network_fault;
-use network::sizes_of;
+use network::Layout;
+use network::layout_of;
 use residuals::residuals_at;
 ghost use mathlib.Core.Path.{_≡_};
 ghost use Prim.Native.Nat.{_+_, _*_, _≤_};
 ghost use lib.ListN.{length};
-ghost use Rattle.network.specs.Network.{buses, generators, branches, references};
 ghost use Rattle.derived.specs.Agree.{Ready};
+ghost use Rattle.derived.specs.Scratch.{Held};
 ghost use Rattle.validate.specs.Check.{checked, outputsAfter};
-ghost use Rattle.validate.specs.Verdict.{Cleared, Held, refusal};
+ghost use Rattle.validate.specs.Verdict.{Cleared, refusal};
 
 fn refused(f: Fault) -> Checked
     ensures { λ r. ⌜ r ≡ refusal f ⌝ }
@@ -33,52 +37,30 @@ fn refused(f: Fault) -> Checked
     }
 }
 
-// 15, 16 and the outputs, where 1 to 14 are clear and the scratch lists hold the injections and the flows.
+// 15, 16 and the outputs, where 1 to 14 are clear and the scratch list holds the outputs.
 fn judge(
     words: &[u32],
     numbers: &[f64],
     point: &[f64],
-    n: usize,
-    k: usize,
-    m: usize,
-    count: usize,
-    p_from: &[f64],
-    q_from: &[f64],
-    p_to: &[f64],
-    q_to: &[f64],
-    p: [f64; 256],
-    q: [f64; 256],
+    layout: Layout,
+    scratch: &[f64],
     solver: f64,
     own: f64,
     outputs: &mut [f64],
 ) -> Checked
-    requires { ⌜ (Ready (now words) (now numbers) (now point)) × (n ≡ buses (now words)) × (k ≡ generators (now words)) × (m ≡ branches (now words)) × (count ≡ references (now words))
-        × (2 * n + 4 * m ≤ length (now outputs)) × (Cleared (now words) (now numbers) (now point) solver (length (now outputs)))
-        × (Held (now words) (now numbers) (now point) n m p q (now «p_from») (now «q_from») (now «p_to») (now «q_to») own) ⌝ }
-    ensures { λ r. ⌜ (r ≡ checked (now (words .entry)) (now (numbers .entry)) (now (point .entry)) solver (length (now (outputs .entry))))
-        × (now (outputs .exit) ≡ outputsAfter (now (words .entry)) (now (numbers .entry)) (now (point .entry)) solver (now (outputs .entry))) ⌝ }
+    requires { ⌜ (Ready (now words) (now numbers) (now point) layout) × (2 * layout .buses + 4 * layout .branches ≤ length (now outputs))
+        × (Cleared (now words) (now numbers) (now point) solver (length (now outputs)))
+        × (Held (now words) (now numbers) (now point) layout (now scratch) own) ⌝ }
+    ensures { λ r. ⌜ (let ws = now (words .entry) in let xs = now (numbers .entry) in let x = now (point .entry) in
+        let before = now (outputs .entry) in
+        (r ≡ checked ws xs x solver (length before)) × (now (outputs .exit) ≡ outputsAfter ws xs x solver before)) ⌝ }
 {
-    let derived = derived_fault(&p, &q, p_from, q_from, p_to, q_to, n, m, solver, own);
+    let count = 2 * layout.buses + 4 * layout.branches;
+    let derived = derived_fault(scratch, count, solver, own);
     if derived.number != 0 {
         return refused(derived);
     }
-    let r = residuals_at(
-        words,
-        numbers,
-        point,
-        n,
-        k,
-        m,
-        count,
-        p_from,
-        q_from,
-        p_to,
-        q_to,
-        p,
-        q,
-        solver,
-        own,
-    );
+    let r = residuals_at(words, numbers, point, layout, scratch, solver, own);
     let above = residual_fault(r);
     if above.number != 0 {
         return Checked {
@@ -88,7 +70,7 @@ fn judge(
             residuals: r,
         };
     }
-    write_outputs(outputs, &p, &q, p_from, q_from, p_to, q_to, n, m);
+    copy_front(scratch, count, outputs);
     Checked {
         number: 0,
         place: 0,
@@ -102,52 +84,28 @@ fn verdict(
     words: &[u32],
     numbers: &[f64],
     point: &[f64],
-    n: usize,
-    k: usize,
-    m: usize,
-    count: usize,
+    layout: Layout,
     solver: f64,
     outputs: &mut [f64],
 ) -> Checked
-    requires { ⌜ (Ready (now words) (now numbers) (now point)) × (n ≡ buses (now words)) × (k ≡ generators (now words)) × (m ≡ branches (now words)) × (count ≡ references (now words))
-        × (2 * n + 4 * m ≤ length (now outputs)) × (Cleared (now words) (now numbers) (now point) solver (length (now outputs))) ⌝ }
-    ensures { λ r. ⌜ (r ≡ checked (now (words .entry)) (now (numbers .entry)) (now (point .entry)) solver (length (now (outputs .entry))))
-        × (now (outputs .exit) ≡ outputsAfter (now (words .entry)) (now (numbers .entry)) (now (point .entry)) solver (now (outputs .entry))) ⌝ }
+    requires { ⌜ (Ready (now words) (now numbers) (now point) layout) × (2 * layout .buses + 4 * layout .branches ≤ length (now outputs))
+        × (Cleared (now words) (now numbers) (now point) solver (length (now outputs))) ⌝ }
+    ensures { λ r. ⌜ (let ws = now (words .entry) in let xs = now (numbers .entry) in let x = now (point .entry) in
+        let before = now (outputs .entry) in
+        (r ≡ checked ws xs x solver (length before)) × (now (outputs .exit) ≡ outputsAfter ws xs x solver before)) ⌝ }
 {
-    let mut pf = [0.0; 512];
-    let mut qf = [0.0; 512];
-    let mut pt = [0.0; 512];
-    let mut qt = [0.0; 512];
-    flows(
-        words,
-        numbers,
-        point,
-        n,
-        k,
-        m,
-        &mut pf,
-        &mut qf,
-        &mut pt,
-        &mut qt,
-    );
-    let mut p = [0.0; 256];
-    let mut q = [0.0; 256];
-    injections(words, numbers, point, n, k, &mut p, &mut q);
-    let own = own_objective(words, numbers, point, n, k);
+    let mut voltage = [0.0; MOST_PER_BUS];
+    voltages(point, layout, &mut voltage);
+    let mut scratch = [0.0; MOST_OUTPUTS];
+    flows(words, numbers, layout, &voltage, &mut scratch);
+    injections(words, numbers, point, layout, &mut scratch);
+    let own = own_objective(words, numbers, point, layout);
     judge(
         words,
         numbers,
         point,
-        n,
-        k,
-        m,
-        count,
-        &pf,
-        &qf,
-        &pt,
-        &qt,
-        p,
-        q,
+        layout,
+        &scratch,
         solver,
         own,
         outputs,
@@ -163,38 +121,27 @@ pub fn check(
     solver_objective: f64,
     outputs: &mut [f64],
 ) -> Checked
-    ensures { λ r. ⌜ (r ≡ checked (now (words .entry)) (now (numbers .entry)) (now (point .entry)) «solver_objective» (length (now (outputs .entry))))
-        × (now (outputs .exit) ≡ outputsAfter (now (words .entry)) (now (numbers .entry)) (now (point .entry)) «solver_objective» (now (outputs .entry))) ⌝ }
+    ensures { λ r. ⌜ (let ws = now (words .entry) in let xs = now (numbers .entry) in let x = now (point .entry) in
+        let before = now (outputs .entry) in
+        (r ≡ checked ws xs x «solver_objective» (length before))
+        × (now (outputs .exit) ≡ outputsAfter ws xs x «solver_objective» before)) ⌝ }
 {
     let refusal = network_fault(words, numbers);
     if refusal.number != 0 {
         return refused(refusal);
     }
-    let sizes = sizes_of(words);
-    let n = sizes.buses;
-    let k = sizes.generators;
-    let m = sizes.branches;
-    let short = output_fault(outputs.len(), n, m);
+    let layout = layout_of(words);
+    let short = output_fault(outputs.len(), 2 * layout.buses + 4 * layout.branches);
     if short.number != 0 {
         return refused(short);
     }
-    let given = point_fault(point, columns_of(words, n, k));
+    let given = point_fault(point, columns_of(words, layout));
     if given.number != 0 {
         return refused(given);
     }
-    let swing = swing_fault(point, n);
+    let swing = swing_fault(point, layout.buses);
     if swing.number != 0 {
         return refused(swing);
     }
-    verdict(
-        words,
-        numbers,
-        point,
-        n,
-        k,
-        m,
-        sizes.references,
-        solver_objective,
-        outputs,
-    )
+    verdict(words, numbers, point, layout, solver_objective, outputs)
 }

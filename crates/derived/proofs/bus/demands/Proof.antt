@@ -1,112 +1,108 @@
-use mathlib.Core.Path.{_≡_, refl}
-use Prim.Native.Nat.{_-_, _<_, _≤_}
-use native.Mathlib.Omega.{arith}
-use lib.ListN.{length, length-set}
 use borrow.Author.Needs.{needs}
+use native.Mathlib.Omega.{arith}
+use mathlib.Core.Path.{_≡_, refl}
+use Prim.Native.Nat.{_*_, _-_, _≤_}
+use lib.ListN.{length, length-set}
+use Rattle.derived.specs.Agree.{PerBus, Kept}
 use Rattle.derived.specs.Scratch.{pDemand, qDemand}
-use Rattle.derived.specs.Agree.{Agrees}
-use Rattle.derived.proofs.Scratch.{set-next}
+use Rattle.derived.proofs.Scratch.{per-bus-next, kept-two}
+use Rattle.derived.proofs.Turns.{demand-p, demand-q}
 use Rattle.derived.proofs.bus.demands.Statement.{statement}
 use Rattle.derived.proofs.bus.demands.Tie as tie
 
 abbrev Inv-loop : tie.InvT-loop
-Inv-loop numbers point n p₀ q₀ i₀ p q i = (i ≤ n) × (length p ≡ length p₀) × (length q ≡ length q₀)
-    × Agrees i (pDemand numbers point n) p × Agrees i (qDemand numbers point n) q
+Inv-loop words numbers point layout list₀ n i₀ list i =
+    (i ≤ n) × (length list ≡ length list₀) × PerBus n i (pDemand words numbers point) (qDemand words numbers point) list × Kept (2 * n) list₀ list
 
 abbrev μ-loop : tie.MeasureT-loop
-μ-loop numbers point n p₀ q₀ i₀ p q i = n - i
+μ-loop words numbers point layout list₀ n i₀ list i = n - i
 
 loop-holds : tie.Need-loop-holds Inv-loop μ-loop
-loop-holds c = (omega arith, refl, refl, λ j h. absurd (omega arith), λ j h. absurd (omega arith))
+loop-holds c =
+    (omega arith, refl, record { one = λ j h. absurd (omega arith); two = λ j h. absurd (omega arith) }, λ j h. refl)
+
+bus-of-requires : tie.Need-bus-of-requires Inv-loop μ-loop
+bus-of-requires c κs =
+    let pre = c .before .before .before .before .before .before .pre in
+    (pre .0 .laid, c .loop-test .taken)
 
 add-v : tie.Need-add-v Inv-loop μ-loop
-add-v c = search needs
+add-v c =
+    let pre = c .before .before .before .before .before .before .before .pre in
+    let loop = c .before .before .loop in
+    omega (arith, pre .0 .laid .words .few-buses, pre .0 .wide, pre .1, loop .inv .1, c .before .loop-test .taken)
 
 mul-v : tie.Need-mul-v Inv-loop μ-loop
-mul-v c = search needs
+mul-v c =
+    let pre = c .before .before .before .before .before .before .before .pre in
+    let loop = c .before .before .loop in
+    omega (arith, pre .0 .laid .words .few-buses, pre .0 .wide, pre .1, loop .inv .1, c .before .loop-test .taken)
 
 shared-slice-read-v : tie.Need-shared-slice-read-v Inv-loop μ-loop
-shared-slice-read-v c = search needs
+shared-slice-read-v c =
+    let pre = c .before .before .before .before .before .before .before .before .pre in
+    let loop = c .before .before .before .loop in
+    omega (arith, pre .0 .laid .words .few-buses, pre .0 .wide, pre .1, loop .inv .1, c .before .before .loop-test .taken)
 
-mul-p : tie.Need-mul-p Inv-loop μ-loop
-mul-p c = search needs
+mul-list : tie.Need-mul-list Inv-loop μ-loop
+mul-list c =
+    let pre = c .before .before .before .before .before .before .before .before .before .before .pre in
+    let loop = c .before .before .before .before .before .loop in
+    omega (arith, pre .0 .laid .words .few-buses, pre .0 .wide, pre .1, loop .inv .1, c .before .before .before .before .loop-test .taken)
 
-mul-p-2 : tie.Need-mul-p-2 Inv-loop μ-loop
-mul-p-2 c = search needs
+slice-write-list : tie.Need-slice-write-list Inv-loop μ-loop
+slice-write-list c =
+    let pre = c .before .before .before .before .before .before .before .before .before .before .pre in
+    let loop = c .before .before .before .before .before .loop in
+    omega (arith, pre .0 .laid .words .few-buses, pre .0 .wide, pre .1, loop .inv .1, c .before .before .before .before .loop-test .taken)
 
-shared-slice-read-p : tie.Need-shared-slice-read-p Inv-loop μ-loop
-shared-slice-read-p c = search needs
+add-list : tie.Need-add-list Inv-loop μ-loop
+add-list c =
+    let pre = c .before .before .before .before .before .before .before .before .before .before .before .before .pre in
+    let loop = c .before .before .before .before .before .before .before .loop in
+    omega (arith, pre .0 .laid .words .few-buses, pre .0 .wide, pre .1, loop .inv .1, c .before .before .before .before .before .before .loop-test .taken)
 
-mul-p-3 : tie.Need-mul-p-3 Inv-loop μ-loop
-mul-p-3 c = search needs
+mul-list-2 : tie.Need-mul-list-2 Inv-loop μ-loop
+mul-list-2 c =
+    let pre = c .before .before .before .before .before .before .before .before .before .before .before .before .pre in
+    let loop = c .before .before .before .before .before .before .before .loop in
+    omega (arith, pre .0 .laid .words .few-buses, pre .0 .wide, pre .1, loop .inv .1, c .before .before .before .before .before .before .loop-test .taken)
 
-add-p : tie.Need-add-p Inv-loop μ-loop
-add-p c = search needs
-
-mul-p-4 : tie.Need-mul-p-4 Inv-loop μ-loop
-mul-p-4 c = search needs
-
-shared-slice-read-p-2 : tie.Need-shared-slice-read-p-2 Inv-loop μ-loop
-shared-slice-read-p-2 c = search needs
-
-mul-p-5 : tie.Need-mul-p-5 Inv-loop μ-loop
-mul-p-5 c = search needs
-
-slice-write-p : tie.Need-slice-write-p Inv-loop μ-loop
-slice-write-p c = search needs
-
-mul-q : tie.Need-mul-q Inv-loop μ-loop
-mul-q c = search needs
-
-add-q : tie.Need-add-q Inv-loop μ-loop
-add-q c = search needs
-
-mul-q-2 : tie.Need-mul-q-2 Inv-loop μ-loop
-mul-q-2 c = search needs
-
-shared-slice-read-q : tie.Need-shared-slice-read-q Inv-loop μ-loop
-shared-slice-read-q c = search needs
-
-mul-q-3 : tie.Need-mul-q-3 Inv-loop μ-loop
-mul-q-3 c = search needs
-
-add-q-2 : tie.Need-add-q-2 Inv-loop μ-loop
-add-q-2 c = search needs
-
-mul-q-4 : tie.Need-mul-q-4 Inv-loop μ-loop
-mul-q-4 c = search needs
-
-shared-slice-read-q-2 : tie.Need-shared-slice-read-q-2 Inv-loop μ-loop
-shared-slice-read-q-2 c = search needs
-
-mul-q-5 : tie.Need-mul-q-5 Inv-loop μ-loop
-mul-q-5 c = search needs
-
-slice-write-q : tie.Need-slice-write-q Inv-loop μ-loop
-slice-write-q c = search needs
+slice-write-list-2 : tie.Need-slice-write-list-2 Inv-loop μ-loop
+slice-write-list-2 c =
+    let pre = c .before .before .before .before .before .before .before .before .before .before .before .before .pre in
+    let loop = c .before .before .before .before .before .before .before .loop in
+    simp length-set (omega (arith, pre .0 .laid .words .few-buses, pre .0 .wide, pre .1, loop .inv .1, c .before .before .before .before .before .before .loop-test .taken))
 
 add-i : tie.Need-add-i Inv-loop μ-loop
-add-i c = search needs
+add-i c =
+    let pre = c .before .before .before .before .before .before .before .before .before .before .before .before .pre in
+    let loop = c .before .before .before .before .before .before .before .loop in
+    omega (arith, pre .0 .laid .words .few-buses, pre .0 .wide, pre .1, loop .inv .1, c .before .before .before .before .before .before .loop-test .taken)
 
 loop-less : tie.Need-loop-less Inv-loop μ-loop
 loop-less c = search needs
 
 loop-again : tie.Need-loop-again Inv-loop μ-loop
-loop-again c = let l = c .before .before .before .before .before .before .loop in
-    let h1 : l .i < length (l .p) = omega arith in
-    let h2 : l .i < length (l .q) = omega arith in
-    (omega arith, simp length-set (omega arith), simp length-set (omega arith), set-next _ (l .p) _ _ h1 refl (l .inv .3), set-next _ (l .q) _ _ h2 refl (l .inv .4))
+loop-again c =
+    let args = c .before .before .before .before .before .before .before .before .before .before .before .before .args in
+    let pre = c .before .before .before .before .before .before .before .before .before .before .before .before .pre in
+    let loop = c .before .before .before .before .before .before .before .loop in
+    let bus = c .before .before .before .before .before .bus-of .ensures in
+    let h = c .before .before .before .before .before .before .loop-test .taken in (
+      omega arith,
+      simp length-set (loop .inv .1),
+      per-bus-next _ _ _ (loop .list) _ _ _ h (omega (arith, pre .1, loop .inv .1)) (demand-p (args .point .now) (pre .0 .laid) (loop .i) bus) (demand-q (args .point .now) (pre .0 .laid) (loop .i) bus) (loop .inv .2),
+      kept-two (args .layout .buses) (args .list .now) (loop .list) (loop .i) _ _ h (loop .inv .3),
+    )
 
 same-length : tie.Need-same-length Inv-loop μ-loop
 same-length c = search needs
 
-same-length-2 : tie.Need-same-length-2 Inv-loop μ-loop
-same-length-2 c = search needs
-
 returns : tie.Need-returns Inv-loop μ-loop
 returns c =
-    let loop = c .before .loop in
-    let e : loop .i ≡ c .before .before .args .n = omega arith in (rw e at (loop .inv .3), rw e at (loop .inv .4))
+    let args = c .before .before .before .before .before .before .args in
+    let e : c .before .loop .i ≡ args .layout .buses = omega (arith, c .loop-test .left, c .before .loop .inv .0) in (rw e at (c .before .loop .inv .2), c .before .loop .inv .3)
 
 pub demands-spec : {M : Type 1} → statement M
 demands-spec =
@@ -115,31 +111,17 @@ demands-spec =
     Inv-loop
     μ-loop
     loop-holds
+    bus-of-requires
     add-v
     mul-v
     shared-slice-read-v
-    mul-p
-    mul-p-2
-    shared-slice-read-p
-    mul-p-3
-    add-p
-    mul-p-4
-    shared-slice-read-p-2
-    mul-p-5
-    slice-write-p
-    mul-q
-    add-q
-    mul-q-2
-    shared-slice-read-q
-    mul-q-3
-    add-q-2
-    mul-q-4
-    shared-slice-read-q-2
-    mul-q-5
-    slice-write-q
+    mul-list
+    slice-write-list
+    add-list
+    mul-list-2
+    slice-write-list-2
     add-i
     loop-less
     loop-again
     same-length
-    same-length-2
     returns)

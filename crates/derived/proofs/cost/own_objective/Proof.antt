@@ -1,129 +1,87 @@
-use mathlib.Core.Path.{_≡_, sym}
-use Prim.Native.Nat.{_-_, _≤_}
-use native.Mathlib.Omega.{arith}
-use borrow.Author.Tests.{not-true, not-false}
 use borrow.Author.Needs.{needs}
-use Rattle.network.specs.Network.{generatorAt}
-use Rattle.network.proofs.Good.{generator-zero}
-use Rattle.network.proofs.Steps.{generator-turn, generator-room}
-use Rattle.derived.proofs.Sums.{points-few, two-each, generators-fit, costsBefore, costs-none, costs-next, own-costs, own-none}
+use native.Mathlib.Omega.{arith}
+use mathlib.Core.Path.{_≡_, ap}
+use Prim.Native.Nat.{_-_}
+use borrow.Author.Tests.{not-true, not-false}
+use Rattle.network.specs.Network.{generators}
+use Rattle.network.specs.Layout.{Standing}
+use Rattle.derived.proofs.Sums.{costsBefore, costs-none, costs-turn, own-costs, own-none}
 use Rattle.derived.proofs.cost.own_objective.Statement.{statement}
 use Rattle.derived.proofs.cost.own_objective.Tie as tie
 
 abbrev Inv-loop : tie.InvT-loop
-Inv-loop words numbers point n k costs sum₀ at₀ g₀ sum at g = (g ≤ k) × (at ≡ generatorAt words g) × (sum ≡ costsBefore words numbers point g)
+Inv-loop words numbers point layout first sum₀ cursor₀ sum cursor =
+    (Standing words layout cursor) × (sum ≡ costsBefore words numbers point (cursor .index))
 
 abbrev μ-loop : tie.MeasureT-loop
-μ-loop words numbers point n k costs sum₀ at₀ g₀ sum at g = k - g
-
-shared-slice-read-header-costs : tie.Need-shared-slice-read-header-costs Inv-loop μ-loop
-shared-slice-read-header-costs c = omega (arith, c .before .before .before .before .pre .0 .good .words)
-
-header-costs-requires : tie.Need-header-costs-requires Inv-loop μ-loop
-header-costs-requires c κs = search needs
+μ-loop words numbers point layout first sum₀ cursor₀ sum cursor = layout .generators - cursor .index
 
 returns : tie.Need-returns Inv-loop μ-loop
-returns c = own-none _ _ _ _ (c .before .header-costs .ensures) (not-true _ (c .if1 .taken))
+returns c =
+    let args = c .before .before .before .before .before .args in
+    let pre = c .before .before .before .before .before .pre in
+    own-none (args .point .now) (pre .laid) (not-true _ (c .if1 .taken))
 
-mul-at : tie.Need-mul-at Inv-loop μ-loop
-mul-at c =
+mul-first : tie.Need-mul-first Inv-loop μ-loop
+mul-first c =
     let pre = c .before .before .before .before .before .before .pre in
-    omega (arith, pre .0 .good .few-buses, pre .1)
+    omega (arith, pre .laid .words .few-buses, pre .laid .words .few-generators, pre .wide)
+
+first-generator-requires : tie.Need-first-generator-requires Inv-loop μ-loop
+first-generator-requires c κs =
+    let pre = c .before .before .before .before .before .before .pre in
+    pre .laid .words
 
 loop-holds : tie.Need-loop-holds Inv-loop μ-loop
-loop-holds c = (omega arith, rw (c .before .before .before .before .before .before .pre .1) (sym (generator-zero _)), costs-none _ _ _)
+loop-holds c = (c .first-generator .ensures .0, rw (c .first-generator .ensures .1) (costs-none _ _ _))
 
-add-w : tie.Need-add-w Inv-loop μ-loop
-add-w c =
-    let pre = c .before .before .before .before .before .before .before .before .pre in
-    omega (arith, pre .0 .good .few-buses, pre .1)
-
-add-w-2 : tie.Need-add-w-2 Inv-loop μ-loop
-add-w-2 c =
-    let pre = c .before .before .before .before .before .before .before .before .pre in
-    omega (arith, pre .0 .good .few-buses, pre .1, pre .0 .good .few-generators, pre .2)
-
-mul-w : tie.Need-mul-w Inv-loop μ-loop
-mul-w c =
-    let pre = c .before .before .before .before .before .before .before .before .pre in
-    omega (arith, pre .0 .good .few-buses, pre .1, pre .0 .good .few-generators, pre .2)
-
-shared-slice-read-w : tie.Need-shared-slice-read-w Inv-loop μ-loop
-shared-slice-read-w c =
-    let pre = c .before .before .before .before .before .before .before .before .before .pre in
-    omega (arith, pre .0 .good .words, pre .1, pre .2)
-
-generator-points-requires : tie.Need-generator-points-requires Inv-loop μ-loop
-generator-points-requires c κs = search needs
-
-is-curved-requires : tie.Need-is-curved-requires Inv-loop μ-loop
-is-curved-requires c κs = search needs
-
-mul-generator-cost : tie.Need-mul-generator-cost Inv-loop μ-loop
-mul-generator-cost c =
+generator-of-requires : tie.Need-generator-of-requires Inv-loop μ-loop
+generator-of-requires c κs =
     let pre = c .before .before .before .before .before .before .before .before .before .before .before .pre in
-    omega (arith, pre .0 .good .few-buses, pre .1)
+    let loop = c .before .before .before .loop in
+    (pre .laid, loop .inv .0, c .if2 .taken)
 
 add-generator-cost : tie.Need-add-generator-cost Inv-loop μ-loop
 add-generator-cost c =
-    let pre = c .before .before .before .before .before .before .before .before .before .before .before .pre in
-    omega (arith, pre .0 .good .few-buses, pre .1, pre .0 .good .few-generators, pre .2)
+    let pre = c .before .before .before .before .before .before .before .before .before .before .before .before .before .pre in
+    omega (arith, pre .laid .words .few-buses, pre .laid .words .few-generators, pre .wide, c .before .before .if2 .taken)
 
-mul-generator-cost-2 : tie.Need-mul-generator-cost-2 Inv-loop μ-loop
-mul-generator-cost-2 c =
-    let pre = c .before .before .before .before .before .before .before .before .before .before .before .pre in
-    omega (arith, pre .0 .good .few-buses, pre .1, pre .0 .good .few-generators, pre .2)
+mul-generator-cost : tie.Need-mul-generator-cost Inv-loop μ-loop
+mul-generator-cost c =
+    let pre = c .before .before .before .before .before .before .before .before .before .before .before .before .before .pre in
+    omega (arith, pre .laid .words .few-buses, pre .laid .words .few-generators, pre .wide, c .before .before .if2 .taken)
 
 shared-slice-read-generator-cost : tie.Need-shared-slice-read-generator-cost Inv-loop μ-loop
 shared-slice-read-generator-cost c =
-    let pre = c .before .before .before .before .before .before .before .before .before .before .before .before .pre in
-    let wide = two-each (c .before .before .before .before .before .before .before .before .before .before .before .before .args .words .now) in omega (arith, pre .0 .given, pre .1, pre .2)
+    let pre = c .before .before .before .before .before .before .before .before .before .before .before .before .before .before .pre in
+    omega (arith, pre .laid .words .few-buses, pre .laid .words .few-generators, pre .wide, c .before .before .before .if2 .taken)
 
 generator-cost-requires : tie.Need-generator-cost-requires Inv-loop μ-loop
-generator-cost-requires c κs =
-    let pre = c .before .before .before .before .before .before .before .before .before .before .before .before .pre in
-    let h = generator-room _ _ _ _ _ (pre .1) (c .before .before .before .before .before .loop .inv .1) (c .before .before .generator-points .ensures) _ (c .before .before .before .before .loop-test .taken) in
-    let f = generators-fit _ _ (pre .0 .good) _ (pre .2) in
-    (omega (arith, pre .2), points-few _ _ (pre .0 .good) _ _ _ (pre .1) (c .before .before .generator-points .ensures) (omega (arith, pre .2)))
+generator-cost-requires c κs = (c .before .before .generator-of .ensures .curve, c .before .before .generator-of .ensures .points)
 
-mul-at-2 : tie.Need-mul-at-2 Inv-loop μ-loop
-mul-at-2 c =
-    let pre = c .before .before .before .before .before .before .before .before .before .before .before .before .before .pre in
-    let h = generator-room _ _ _ _ _ (pre .1) (c .before .before .before .before .before .before .loop .inv .1) (c .before .before .before .generator-points .ensures) _ (c .before .before .before .before .before .loop-test .taken) in
-    let f = generators-fit _ _ (pre .0 .good) _ (pre .2) in
-    omega (arith, pre .0 .good .numbers, pre .0 .good .few-numbers, pre .2)
-
-add-at : tie.Need-add-at Inv-loop μ-loop
-add-at c =
-    let pre = c .before .before .before .before .before .before .before .before .before .before .before .before .before .pre in
-    let h = generator-room _ _ _ _ _ (pre .1) (c .before .before .before .before .before .before .loop .inv .1) (c .before .before .before .generator-points .ensures) _ (c .before .before .before .before .before .loop-test .taken) in
-    let f = generators-fit _ _ (pre .0 .good) _ (pre .2) in
-    omega (arith, pre .0 .good .numbers, pre .0 .good .few-numbers, pre .2)
-
-add-at-2 : tie.Need-add-at-2 Inv-loop μ-loop
-add-at-2 c =
-    let pre = c .before .before .before .before .before .before .before .before .before .before .before .before .before .pre in
-    let h = generator-room _ _ _ _ _ (pre .1) (c .before .before .before .before .before .before .loop .inv .1) (c .before .before .before .generator-points .ensures) _ (c .before .before .before .before .before .loop-test .taken) in
-    let f = generators-fit _ _ (pre .0 .good) _ (pre .2) in
-    omega (arith, pre .0 .good .numbers, pre .0 .good .few-numbers, pre .2)
-
-add-g : tie.Need-add-g Inv-loop μ-loop
-add-g c = search needs
+next-generator-requires : tie.Need-next-generator-requires Inv-loop μ-loop
+next-generator-requires c κs =
+    let pre = c .before .before .before .before .before .before .before .before .before .before .before .before .before .before .before .pre in
+    let loop = c .before .before .before .before .before .before .before .loop in
+    (pre .laid .words, loop .inv .0, c .before .before .before .before .if2 .taken)
 
 loop-less : tie.Need-loop-less Inv-loop μ-loop
 loop-less c = search needs
 
 loop-again : tie.Need-loop-again Inv-loop μ-loop
 loop-again c =
-    let pre = c .before .before .before .before .before .before .before .before .before .before .before .before .before .pre in
-    let loop = c .before .before .before .before .before .before .loop in
-    let e = generator-turn _ _ _ _ _ (pre .1) (loop .inv .1) (c .before .before .before .generator-points .ensures) in
-    (omega arith, omega (arith, e), costs-next _ _ _ _ _ _ _ _ _ _ _ (pre .1) (loop .inv .1) (c .before .before .before .generator-points .ensures) (c .before .before .before .before .before .before .before .before .header-costs .ensures) (c .before .before .is-curved .ensures) (c .generator-cost .ensures) (loop .inv .2))
+    let args = c .before .before .before .before .before .before .before .before .before .before .before .before .before .before .before .before .args in
+    let pre = c .before .before .before .before .before .before .before .before .before .before .before .before .before .before .before .before .pre in
+    let loop = c .before .before .before .before .before .before .before .before .loop in
+    (c .next-generator .ensures .0, rw (c .next-generator .ensures .1) (costs-turn (args .point .now) (pre .laid) (c .before .before .before .before .generator-of .ensures) (c .before .generator-cost .ensures) (loop .inv .1)))
 
 returns-2 : tie.Need-returns-2 Inv-loop μ-loop
 returns-2 c =
-    let loop = c .before .loop in
-    let e : loop .g ≡ c .before .before .before .before .before .before .before .before .args .k = omega arith in own-costs _ _ _ _ _ _ (rw e (c .before .before .before .before .before .before .before .before .pre .2)) (c .before .before .before .header-costs .ensures) (not-false _ (c .before .before .if1 .left)) (loop .inv .2)
+    let args = c .before .before .before .before .before .before .before .before .before .before .before .args in
+    let pre = c .before .before .before .before .before .before .before .before .before .before .before .pre in
+    let loop = c .before .before .before .loop in
+    let e : loop .cursor .index ≡ generators (args .words .now) = omega (arith, ap (λ z. z .generators) (pre .laid .words .is), c .if2 .left, loop .inv .0 .within) in
+    own-costs (args .point .now) (pre .laid) _ _ e (not-false _ (c .before .before .before .before .before .before .if1 .left)) (loop .inv .1)
 
 pub own-objective-spec : {M : Type 1} → statement M
 own-objective-spec =
@@ -131,26 +89,16 @@ own-objective-spec =
     (tie.spec
     Inv-loop
     μ-loop
-    shared-slice-read-header-costs
-    header-costs-requires
     returns
-    mul-at
+    mul-first
+    first-generator-requires
     loop-holds
-    add-w
-    add-w-2
-    mul-w
-    shared-slice-read-w
-    generator-points-requires
-    is-curved-requires
-    mul-generator-cost
+    generator-of-requires
     add-generator-cost
-    mul-generator-cost-2
+    mul-generator-cost
     shared-slice-read-generator-cost
     generator-cost-requires
-    mul-at-2
-    add-at
-    add-at-2
-    add-g
+    next-generator-requires
     loop-less
     loop-again
     returns-2)

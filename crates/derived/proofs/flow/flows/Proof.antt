@@ -1,132 +1,180 @@
-use mathlib.Core.Path.{_≡_, refl}
-use Prim.Native.Nat.{_-_, _<_, _≤_}
-use native.Mathlib.Omega.{arith}
-use lib.ListN.{length, length-set}
 use borrow.Author.Needs.{needs}
-use Rattle.network.specs.Network.{branches, branchAt}
-use Rattle.network.proofs.Good.{branch-next}
-use Rattle.derived.specs.Scratch.{FlowsAre}
-use Rattle.derived.proofs.Scratch.{flow-next}
-use Rattle.derived.proofs.Sums.{branches-start}
+use native.Mathlib.Omega.{arith}
+use mathlib.Core.Path.{_≡_, refl, ap}
+use mathlib.Core.List.{List}
+use Prim.Native.Nat.{_-_, _<_, _≤_}
+use lib.Ieee.{Float}
+use lib.ListN.{length, length-set}
+use Rattle.network.specs.Network.{branches}
+use Rattle.derived.specs.Outputs.{flows}
+use Rattle.derived.specs.Scratch.{VoltagesAre, FlowsAre}
+use Rattle.derived.proofs.Scratch.{flow-is, flows-next}
 use Rattle.derived.proofs.flow.flows.Statement.{statement}
 use Rattle.derived.proofs.flow.flows.Tie as tie
 
 abbrev Inv-loop : tie.InvT-loop
-Inv-loop words numbers point n k m p-from₀ q-from₀ p-to₀ q-to₀ at₀ b₀ p-from q-from p-to q-to at b = (b ≤ m) × (at ≡ branchAt words b) × (length p-from ≡ length p-from₀) × (length q-from ≡ length q-from₀) × (length p-to ≡ length p-to₀) × (length q-to ≡ length q-to₀)
-    × FlowsAre words numbers point b p-from q-from p-to q-to
+Inv-loop words numbers layout voltages list₀ m first b₀ list b =
+    (b ≤ m) × (length list ≡ length list₀)
+    × ((x : List Float) → VoltagesAre words x layout voltages → FlowsAre (flows words numbers x) (layout .buses) m b list)
 
 abbrev μ-loop : tie.MeasureT-loop
-μ-loop words numbers point n k m p-from₀ q-from₀ p-to₀ q-to₀ at₀ b₀ p-from q-from p-to q-to at b = m - b
+μ-loop words numbers layout voltages list₀ m first b₀ list b = m - b
 
-mul-at : tie.Need-mul-at Inv-loop μ-loop
-mul-at c =
-    let pre = c .before .before .before .before .before .before .before .pre in
-    omega (arith, pre .0 .good .few-branches, pre .3)
-
-sub-at : tie.Need-sub-at Inv-loop μ-loop
-sub-at c =
-    let pre = c .before .before .before .before .before .before .before .pre in
-    omega (arith, branches-start _ _ (pre .0 .good), pre .3)
+mul-first : tie.Need-mul-first Inv-loop μ-loop
+mul-first c =
+    let pre = c .before .before .before .before .before .pre in
+    omega (arith, pre .0 .words .few-buses, pre .0 .words .few-branches, pre .2)
 
 loop-holds : tie.Need-loop-holds Inv-loop μ-loop
 loop-holds c =
-    let pre = c .before .before .before .before .before .before .before .pre in
-    (omega arith, omega (arith, branches-start _ _ (pre .0 .good), pre .3), refl, refl, refl, refl, record { p-from = λ b h. absurd (omega arith); q-from = λ b h. absurd (omega arith); p-to = λ b h. absurd (omega arith); q-to = λ b h. absurd (omega arith) })
+    (omega arith, refl, λ x v. record { p-from = λ b h. absurd (omega arith); q-from = λ b h. absurd (omega arith); p-to = λ b h. absurd (omega arith); q-to = λ b h. absurd (omega arith) })
 
 flow-of-requires : tie.Need-flow-of-requires Inv-loop μ-loop
 flow-of-requires c κs =
-    let pre = c .before .before .before .before .before .before .before .before .before .pre in
-    (pre .0, pre .1, pre .2, omega (arith, pre .3, c .loop-test .taken), c .before .loop .inv .1)
+    let pre = c .before .before .before .before .before .before .before .pre in
+    (pre .0, pre .1, c .loop-test .taken)
 
-array-read-p-from : tie.Need-array-read-p-from Inv-loop μ-loop
-array-read-p-from c = search needs
+array-read-list : tie.Need-array-read-list Inv-loop μ-loop
+array-read-list c = search needs
 
-mul-p-from : tie.Need-mul-p-from Inv-loop μ-loop
-mul-p-from c = search needs
-
-slice-write-p-from : tie.Need-slice-write-p-from Inv-loop μ-loop
-slice-write-p-from c = search needs
-
-array-read-q-from : tie.Need-array-read-q-from Inv-loop μ-loop
-array-read-q-from c = search needs
-
-mul-q-from : tie.Need-mul-q-from Inv-loop μ-loop
-mul-q-from c = search needs
-
-slice-write-q-from : tie.Need-slice-write-q-from Inv-loop μ-loop
-slice-write-q-from c = search needs
-
-array-read-p-to : tie.Need-array-read-p-to Inv-loop μ-loop
-array-read-p-to c = search needs
-
-mul-p-to : tie.Need-mul-p-to Inv-loop μ-loop
-mul-p-to c = search needs
-
-slice-write-p-to : tie.Need-slice-write-p-to Inv-loop μ-loop
-slice-write-p-to c = search needs
-
-array-read-q-to : tie.Need-array-read-q-to Inv-loop μ-loop
-array-read-q-to c = search needs
-
-mul-q-to : tie.Need-mul-q-to Inv-loop μ-loop
-mul-q-to c = search needs
-
-slice-write-q-to : tie.Need-slice-write-q-to Inv-loop μ-loop
-slice-write-q-to c = search needs
-
-add-at : tie.Need-add-at Inv-loop μ-loop
-add-at c =
-    let pre = c .before .before .before .before .before .before .before .before .before .before .pre in
+add-list : tie.Need-add-list Inv-loop μ-loop
+add-list c =
+    let pre = c .before .before .before .before .before .before .before .before .pre in
     let loop = c .before .before .loop in
-    omega (arith, pre .0 .good .branch-fits (loop .b) (omega (arith, pre .3, c .before .loop-test .taken)), loop .inv .1)
+    omega (arith, pre .0 .words .few-buses, pre .0 .words .few-branches, pre .2, loop .inv .1, c .before .loop-test .taken)
+
+mul-list : tie.Need-mul-list Inv-loop μ-loop
+mul-list c =
+    let pre = c .before .before .before .before .before .before .before .before .pre in
+    let loop = c .before .before .loop in
+    omega (arith, pre .0 .words .few-buses, pre .0 .words .few-branches, pre .2, loop .inv .1, c .before .loop-test .taken)
+
+slice-write-list : tie.Need-slice-write-list Inv-loop μ-loop
+slice-write-list c =
+    let pre = c .before .before .before .before .before .before .before .before .pre in
+    let loop = c .before .before .loop in
+    omega (arith, pre .0 .words .few-buses, pre .0 .words .few-branches, pre .2, loop .inv .1, c .before .loop-test .taken)
+
+array-read-list-2 : tie.Need-array-read-list-2 Inv-loop μ-loop
+array-read-list-2 c = search needs
+
+add-list-2 : tie.Need-add-list-2 Inv-loop μ-loop
+add-list-2 c =
+    let pre = c .before .before .before .before .before .before .before .before .pre in
+    let loop = c .before .before .loop in
+    omega (arith, pre .0 .words .few-buses, pre .0 .words .few-branches, pre .2, loop .inv .1, c .before .loop-test .taken)
+
+add-list-3 : tie.Need-add-list-3 Inv-loop μ-loop
+add-list-3 c =
+    let pre = c .before .before .before .before .before .before .before .before .pre in
+    let loop = c .before .before .loop in
+    omega (arith, pre .0 .words .few-buses, pre .0 .words .few-branches, pre .2, loop .inv .1, c .before .loop-test .taken)
+
+mul-list-2 : tie.Need-mul-list-2 Inv-loop μ-loop
+mul-list-2 c =
+    let pre = c .before .before .before .before .before .before .before .before .pre in
+    let loop = c .before .before .loop in
+    omega (arith, pre .0 .words .few-buses, pre .0 .words .few-branches, pre .2, loop .inv .1, c .before .loop-test .taken)
+
+slice-write-list-2 : tie.Need-slice-write-list-2 Inv-loop μ-loop
+slice-write-list-2 c =
+    let pre = c .before .before .before .before .before .before .before .before .pre in
+    let loop = c .before .before .loop in
+    simp length-set (omega (arith, pre .0 .words .few-buses, pre .0 .words .few-branches, pre .2, loop .inv .1, c .before .loop-test .taken))
+
+array-read-list-3 : tie.Need-array-read-list-3 Inv-loop μ-loop
+array-read-list-3 c = search needs
+
+mul-list-3 : tie.Need-mul-list-3 Inv-loop μ-loop
+mul-list-3 c =
+    let pre = c .before .before .before .before .before .before .before .before .pre in
+    let loop = c .before .before .loop in
+    omega (arith, pre .0 .words .few-buses, pre .0 .words .few-branches, pre .2, loop .inv .1, c .before .loop-test .taken)
+
+add-list-4 : tie.Need-add-list-4 Inv-loop μ-loop
+add-list-4 c =
+    let pre = c .before .before .before .before .before .before .before .before .pre in
+    let loop = c .before .before .loop in
+    omega (arith, pre .0 .words .few-buses, pre .0 .words .few-branches, pre .2, loop .inv .1, c .before .loop-test .taken)
+
+add-list-5 : tie.Need-add-list-5 Inv-loop μ-loop
+add-list-5 c =
+    let pre = c .before .before .before .before .before .before .before .before .pre in
+    let loop = c .before .before .loop in
+    omega (arith, pre .0 .words .few-buses, pre .0 .words .few-branches, pre .2, loop .inv .1, c .before .loop-test .taken)
+
+mul-list-4 : tie.Need-mul-list-4 Inv-loop μ-loop
+mul-list-4 c =
+    let pre = c .before .before .before .before .before .before .before .before .pre in
+    let loop = c .before .before .loop in
+    omega (arith, pre .0 .words .few-buses, pre .0 .words .few-branches, pre .2, loop .inv .1, c .before .loop-test .taken)
+
+slice-write-list-3 : tie.Need-slice-write-list-3 Inv-loop μ-loop
+slice-write-list-3 c =
+    let pre = c .before .before .before .before .before .before .before .before .pre in
+    let loop = c .before .before .loop in
+    simp length-set (omega (arith, pre .0 .words .few-buses, pre .0 .words .few-branches, pre .2, loop .inv .1, c .before .loop-test .taken))
+
+array-read-list-4 : tie.Need-array-read-list-4 Inv-loop μ-loop
+array-read-list-4 c = search needs
+
+mul-list-5 : tie.Need-mul-list-5 Inv-loop μ-loop
+mul-list-5 c =
+    let pre = c .before .before .before .before .before .before .before .before .pre in
+    let loop = c .before .before .loop in
+    omega (arith, pre .0 .words .few-buses, pre .0 .words .few-branches, pre .2, loop .inv .1, c .before .loop-test .taken)
+
+add-list-6 : tie.Need-add-list-6 Inv-loop μ-loop
+add-list-6 c =
+    let pre = c .before .before .before .before .before .before .before .before .pre in
+    let loop = c .before .before .loop in
+    omega (arith, pre .0 .words .few-buses, pre .0 .words .few-branches, pre .2, loop .inv .1, c .before .loop-test .taken)
+
+add-list-7 : tie.Need-add-list-7 Inv-loop μ-loop
+add-list-7 c =
+    let pre = c .before .before .before .before .before .before .before .before .pre in
+    let loop = c .before .before .loop in
+    omega (arith, pre .0 .words .few-buses, pre .0 .words .few-branches, pre .2, loop .inv .1, c .before .loop-test .taken)
+
+mul-list-6 : tie.Need-mul-list-6 Inv-loop μ-loop
+mul-list-6 c =
+    let pre = c .before .before .before .before .before .before .before .before .pre in
+    let loop = c .before .before .loop in
+    omega (arith, pre .0 .words .few-buses, pre .0 .words .few-branches, pre .2, loop .inv .1, c .before .loop-test .taken)
+
+slice-write-list-4 : tie.Need-slice-write-list-4 Inv-loop μ-loop
+slice-write-list-4 c =
+    let pre = c .before .before .before .before .before .before .before .before .pre in
+    let loop = c .before .before .loop in
+    simp length-set (omega (arith, pre .0 .words .few-buses, pre .0 .words .few-branches, pre .2, loop .inv .1, c .before .loop-test .taken))
 
 add-b : tie.Need-add-b Inv-loop μ-loop
-add-b c = search needs
+add-b c =
+    let pre = c .before .before .before .before .before .before .before .before .pre in
+    let loop = c .before .before .loop in
+    omega (arith, pre .0 .words .few-buses, pre .0 .words .few-branches, pre .2, loop .inv .1, c .before .loop-test .taken)
 
 loop-less : tie.Need-loop-less Inv-loop μ-loop
 loop-less c = search needs
 
 loop-again : tie.Need-loop-again Inv-loop μ-loop
 loop-again c =
-    let pre = c .before .before .before .before .before .before .before .before .before .before .pre in
-    let args = c .before .before .before .before .before .before .before .before .before .before .args in
-    let l = c .before .before .loop in
-    let v = c .flow-of .ensures in
-    let hb : l .b < branches (args .words .now) = omega (arith, pre .3, c .before .loop-test .taken) in
-    let h1 : l .b < length (l .p-from) = omega (arith, pre .4, c .before .loop-test .taken, l .inv .2) in
-    let h2 : l .b < length (l .q-from) = omega (arith, pre .5, c .before .loop-test .taken, l .inv .3) in
-    let h3 : l .b < length (l .p-to) = omega (arith, pre .6, c .before .loop-test .taken, l .inv .4) in
-    let h4 : l .b < length (l .q-to) = omega (arith, pre .7, c .before .loop-test .taken, l .inv .5) in (
+    let args = c .before .before .before .before .before .before .before .before .args in
+    let pre = c .before .before .before .before .before .before .before .before .pre in
+    let loop = c .before .before .loop in
+    let h : loop .b < branches (args .words .now) = omega (arith, ap (λ z. z .branches) (pre .0 .words .is), c .before .loop-test .taken) in (
       omega arith,
-      omega (arith, l .inv .1, branch-next (args .words .now) (l .b)),
-      simp length-set (l .inv .2),
-      simp length-set (l .inv .3),
-      simp length-set (l .inv .4),
-      simp length-set (l .inv .5),
-      record {
-        p-from = flow-next _ _ _ 0 _ (l .p-from) _ hb h1 v (l .inv .6 .p-from);
-        q-from = flow-next _ _ _ 1 _ (l .q-from) _ hb h2 v (l .inv .6 .q-from);
-        p-to = flow-next _ _ _ 2 _ (l .p-to) _ hb h3 v (l .inv .6 .p-to);
-        q-to = flow-next _ _ _ 3 _ (l .q-to) _ hb h4 v (l .inv .6 .q-to);
-      },
+      simp length-set (loop .inv .1),
+      λ x v. flows-next _ _ _ _ (loop .list) _ (c .before .loop-test .taken) (omega (arith, pre .2, loop .inv .1)) (flow-is _ _ x _ _ h (c .flow-of .ensures x v)) (loop .inv .2 x v),
     )
 
 same-length : tie.Need-same-length Inv-loop μ-loop
 same-length c = search needs
 
-same-length-2 : tie.Need-same-length-2 Inv-loop μ-loop
-same-length-2 c = search needs
-
-same-length-3 : tie.Need-same-length-3 Inv-loop μ-loop
-same-length-3 c = search needs
-
-same-length-4 : tie.Need-same-length-4 Inv-loop μ-loop
-same-length-4 c = search needs
-
 returns : tie.Need-returns Inv-loop μ-loop
 returns c =
-    let loop = c .before .loop in
-    let e : loop .b ≡ branches (c .before .before .before .before .before .before .before .before .before .args .words .now) = omega (arith, c .before .before .before .before .before .before .before .before .before .pre .3, c .loop-test .left, loop .inv .0) in rw e at (loop .inv .6)
+    let args = c .before .before .before .before .before .before .before .args in
+    let e : c .before .loop .b ≡ args .layout .branches = omega (arith, c .loop-test .left, c .before .loop .inv .0) in λ x v. rw e at (c .before .loop .inv .2 x v)
 
 pub flows-spec : {M : Type 1} → statement M
 flows-spec =
@@ -134,28 +182,32 @@ flows-spec =
     (tie.spec
     Inv-loop
     μ-loop
-    mul-at
-    sub-at
+    mul-first
     loop-holds
     flow-of-requires
-    array-read-p-from
-    mul-p-from
-    slice-write-p-from
-    array-read-q-from
-    mul-q-from
-    slice-write-q-from
-    array-read-p-to
-    mul-p-to
-    slice-write-p-to
-    array-read-q-to
-    mul-q-to
-    slice-write-q-to
-    add-at
+    array-read-list
+    add-list
+    mul-list
+    slice-write-list
+    array-read-list-2
+    add-list-2
+    add-list-3
+    mul-list-2
+    slice-write-list-2
+    array-read-list-3
+    mul-list-3
+    add-list-4
+    add-list-5
+    mul-list-4
+    slice-write-list-3
+    array-read-list-4
+    mul-list-5
+    add-list-6
+    add-list-7
+    mul-list-6
+    slice-write-list-4
     add-b
     loop-less
     loop-again
     same-length
-    same-length-2
-    same-length-3
-    same-length-4
     returns)

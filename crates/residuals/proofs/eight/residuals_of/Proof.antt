@@ -1,35 +1,65 @@
 use borrow.Author.Needs.{needs}
+use native.Mathlib.Omega.{arith}
+use mathlib.Core.Path.{ap}
+use native.Mathlib.Nat.{zero-add}
 use Rattle.derived.specs.Outputs.{flows}
-use Rattle.residuals.proofs.Room.{referred-room, active-is, reactive-is, difference-is, residuals-are}
+use Rattle.residuals.specs.Residuals.{pBalance, qBalance}
+use Rattle.residuals.proofs.Room.{active-is, reactive-is, difference-is, residuals-are}
 use Rattle.residuals.proofs.eight.residuals_of.Statement.{statement}
 use Rattle.residuals.proofs.eight.residuals_of.Tie as tie
 
 balance-residual-requires : tie.Need-balance-residual-requires
-balance-residual-requires c κs = search needs
+balance-residual-requires c κs =
+    let pre = c .before .before .before .before .before .pre in
+    omega (arith, pre .2 .room)
 
 balance-residual-requires-2 : tie.Need-balance-residual-requires-2
-balance-residual-requires-2 c κs = search needs
+balance-residual-requires-2 c κs =
+    let pre = c .before .before .before .before .before .before .pre in
+    omega (arith, pre .2 .room)
 
 variable-bounds-requires : tie.Need-variable-bounds-requires
-variable-bounds-requires c κs = search needs
+variable-bounds-requires c κs =
+    let pre = c .before .before .before .before .before .before .before .pre in
+    pre .0
 
 reference-angles-requires : tie.Need-reference-angles-requires
-reference-angles-requires c κs = (c .before .before .before .before .before .before .before .before .before .before .before .before .pre .4, c .before .before .before .before .before .before .before .before .before .before .before .before .pre .0 .good .words, referred-room (c .before .before .before .before .before .before .before .before .before .before .before .before .pre .0))
+reference-angles-requires c κs =
+    let pre = c .before .before .before .before .before .before .before .before .pre in
+    (pre .0 .laid .words, omega (arith, pre .0 .wide))
 
 angle-limits-requires : tie.Need-angle-limits-requires
-angle-limits-requires c κs = search needs
+angle-limits-requires c κs =
+    let pre = c .before .before .before .before .before .before .before .before .before .pre in
+    pre .0
 
 thermal-limits-requires : tie.Need-thermal-limits-requires
-thermal-limits-requires c κs = search needs
+thermal-limits-requires c κs =
+    let pre = c .before .before .before .before .before .before .before .before .before .before .pre in
+    (pre .0 .laid, pre .1 .room)
 
 epigraphs-requires : tie.Need-epigraphs-requires
-epigraphs-requires c κs = search needs
+epigraphs-requires c κs =
+    let pre = c .before .before .before .before .before .before .before .before .before .before .before .pre in
+    pre .0
 
 objective-difference-requires : tie.Need-objective-difference-requires
 objective-difference-requires c κs = search needs
 
 returns : tie.Need-returns
-returns c = residuals-are (c .before .before .before .before .before .before .before .before .before .before .before .before .before .before .before .before .before .args .words .now) (c .before .before .before .before .before .before .before .before .before .before .before .before .before .before .before .before .before .args .numbers .now) (c .before .before .before .before .before .before .before .before .before .before .before .before .before .before .before .before .before .args .point .now) (flows (c .before .before .before .before .before .before .before .before .before .before .before .before .before .before .before .before .before .args .words .now) (c .before .before .before .before .before .before .before .before .before .before .before .before .before .before .before .before .before .args .numbers .now) (c .before .before .before .before .before .before .before .before .before .before .before .before .before .before .before .before .before .args .point .now)) _ _ _ _ _ _ _ _ _ (active-is (c .before .before .before .before .before .before .before .before .before .before .before .before .before .before .before .before .before .args .words .now) (c .before .before .before .before .before .before .before .before .before .before .before .before .before .before .before .before .before .args .numbers .now) (c .before .before .before .before .before .before .before .before .before .before .before .before .before .before .before .before .before .args .point .now) (flows (c .before .before .before .before .before .before .before .before .before .before .before .before .before .before .before .before .before .args .words .now) (c .before .before .before .before .before .before .before .before .before .before .before .before .before .before .before .before .before .args .numbers .now) (c .before .before .before .before .before .before .before .before .before .before .before .before .before .before .before .before .before .args .point .now)) _ _ (c .before .before .before .before .before .before .before .before .before .before .before .before .before .before .before .before .before .pre .1) (c .before .before .before .before .before .before .before .balance-residual .ensures _ (rw (c .before .before .before .before .before .before .before .before .before .before .before .before .before .before .before .before .before .pre .1) (c .before .before .before .before .before .before .before .before .before .before .before .before .before .before .before .before .before .pre .11 .active)))) (reactive-is (c .before .before .before .before .before .before .before .before .before .before .before .before .before .before .before .before .before .args .words .now) (c .before .before .before .before .before .before .before .before .before .before .before .before .before .before .before .before .before .args .numbers .now) (c .before .before .before .before .before .before .before .before .before .before .before .before .before .before .before .before .before .args .point .now) (flows (c .before .before .before .before .before .before .before .before .before .before .before .before .before .before .before .before .before .args .words .now) (c .before .before .before .before .before .before .before .before .before .before .before .before .before .before .before .before .before .args .numbers .now) (c .before .before .before .before .before .before .before .before .before .before .before .before .before .before .before .before .before .args .point .now)) _ _ (c .before .before .before .before .before .before .before .before .before .before .before .before .before .before .before .before .before .pre .1) (c .before .before .before .before .before .before .balance-residual2 .ensures _ (rw (c .before .before .before .before .before .before .before .before .before .before .before .before .before .before .before .before .before .pre .1) (c .before .before .before .before .before .before .before .before .before .before .before .before .before .before .before .before .before .pre .11 .reactive)))) (c .before .before .before .before .before .variable-bounds .ensures) (c .before .before .before .before .reference-angles .ensures (c .before .before .before .before .before .before .before .before .before .before .before .before .before .before .before .before .before .args .numbers .now)) (c .before .before .before .angle-limits .ensures) (c .before .before .thermal-limits .ensures (c .before .before .before .before .before .before .before .before .before .before .before .before .before .before .before .before .before .args .point .now) (flows (c .before .before .before .before .before .before .before .before .before .before .before .before .before .before .before .before .before .args .words .now) (c .before .before .before .before .before .before .before .before .before .before .before .before .before .before .before .before .before .args .numbers .now) (c .before .before .before .before .before .before .before .before .before .before .before .before .before .before .before .before .before .args .point .now)) (rw (c .before .before .before .before .before .before .before .before .before .before .before .before .before .before .before .before .before .pre .3) (c .before .before .before .before .before .before .before .before .before .before .before .before .before .before .before .before .before .pre .11 .flows-are .p-from)) (rw (c .before .before .before .before .before .before .before .before .before .before .before .before .before .before .before .before .before .pre .3) (c .before .before .before .before .before .before .before .before .before .before .before .before .before .before .before .before .before .pre .11 .flows-are .q-from)) (rw (c .before .before .before .before .before .before .before .before .before .before .before .before .before .before .before .before .before .pre .3) (c .before .before .before .before .before .before .before .before .before .before .before .before .before .before .before .before .before .pre .11 .flows-are .p-to)) (rw (c .before .before .before .before .before .before .before .before .before .before .before .before .before .before .before .before .before .pre .3) (c .before .before .before .before .before .before .before .before .before .before .before .before .before .before .before .before .before .pre .11 .flows-are .q-to))) (c .before .epigraphs .ensures) (difference-is (c .before .before .before .before .before .before .before .before .before .before .before .before .before .before .before .before .before .args .words .now) (c .before .before .before .before .before .before .before .before .before .before .before .before .before .before .before .before .before .args .numbers .now) (c .before .before .before .before .before .before .before .before .before .before .before .before .before .before .before .before .before .args .point .now) _ _ _ (c .before .before .before .before .before .before .before .before .before .before .before .before .before .before .before .before .before .pre .11 .objective) (c .objective-difference .ensures))
+returns c =
+    let args = c .before .before .before .before .before .before .before .before .before .before .before .before .before .args in
+    let pre = c .before .before .before .before .before .before .before .before .before .before .before .before .before .pre in
+    let ws = args .words .now in
+    let xs = args .numbers .now in
+    let x = args .point .now in
+    let n = ap (λ z. z .buses) (pre .0 .laid .words .is) in
+    let B = pre .2 .balances-are in
+    residuals-are ws xs x (flows ws xs x) _ _ _ _ _ _ _ _ _
+    (active-is ws xs x (flows ws xs x) _ _ n (c .before .before .before .before .before .before .before .balance-residual .ensures (pBalance ws xs x (flows ws xs x)) (λ i q. rw zero-add (B .one i q))))
+    (reactive-is ws xs x (flows ws xs x) _ _ n (c .before .before .before .before .before .before .balance-residual2 .ensures (qBalance ws xs x (flows ws xs x)) (B .two)))
+    (c .before .before .before .before .before .variable-bounds .ensures) (c .before .before .before .before .reference-angles .ensures xs) (c .before .before .before .angle-limits .ensures) (c .before .before .thermal-limits .ensures x (flows ws xs x) (pre .1 .flows-are))
+    (c .before .epigraphs .ensures) (difference-is ws xs x _ _ _ (pre .1 .own-is) (c .objective-difference .ensures))
 
 pub residuals-of-spec : {M : Type 1} → statement M
 residuals-of-spec =

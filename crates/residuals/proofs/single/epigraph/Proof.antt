@@ -1,5 +1,5 @@
-use native.Mathlib.Omega.{arith}
 use borrow.Author.Needs.{needs}
+use native.Mathlib.Omega.{arith}
 use Rattle.residuals.proofs.single.epigraph.Statement.{statement}
 use Rattle.residuals.proofs.single.epigraph.Tie as tie
 
@@ -7,10 +7,14 @@ curve-value-requires : tie.Need-curve-value-requires
 curve-value-requires c κs = search needs
 
 mul-over : tie.Need-mul-over
-mul-over c = omega (arith, c .before .before .before .before .pre .2 (c .before .if1 .taken))
+mul-over c =
+    let pre = c .before .before .before .before .pre in
+    omega (arith, pre .2 (c .before .if1 .taken))
 
 shared-slice-read-over : tie.Need-shared-slice-read-over
-shared-slice-read-over c = omega (arith, c .before .before .before .before .before .pre .2 (c .before .before .if1 .taken))
+shared-slice-read-over c =
+    let pre = c .before .before .before .before .before .pre in
+    omega (arith, pre .2 (c .before .before .if1 .taken))
 
 maximum-requires : tie.Need-maximum-requires
 maximum-requires c κs = search needs
@@ -19,10 +23,11 @@ maximum-requires-2 : tie.Need-maximum-requires-2
 maximum-requires-2 c κs = search needs
 
 returns : tie.Need-returns
-returns c = rw (c .before .before .before .before .if1 .taken, c .maximum2 .ensures, c .before .maximum .ensures, c .before .before .before .curve-value .ensures)
+returns c =
+    rw (c .before .before .before .before .if1 .taken, c .maximum2 .ensures, c .before .maximum .ensures, c .before .before .before .curve-value .ensures)
 
 returns-2 : tie.Need-returns-2
-returns-2 c = search needs
+returns-2 c = rw (c .if1 .left)
 
 pub epigraph-spec : {M : Type 1} → statement M
 epigraph-spec =

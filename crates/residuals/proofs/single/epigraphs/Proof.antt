@@ -1,108 +1,123 @@
-use mathlib.Core.Path.{_≡_, sym}
-use Prim.Native.Nat.{_-_, _≤_}
-use native.Mathlib.Omega.{arith}
 use borrow.Author.Needs.{needs}
-use Rattle.network.specs.Network.{generators, curved, generatorAt, epigraphsBefore}
-use Rattle.network.proofs.Good.{generator-zero}
-use Rattle.network.proofs.Steps.{generator-turn}
+use native.Mathlib.Omega.{arith}
+use mathlib.Core.Path.{_≡_, sym, ap}
+use Prim.Native.Nat.{_-_}
+use Rattle.network.specs.Network.{generators, curved, epigraphsBefore}
+use Rattle.network.specs.Layout.{Standing}
+use Rattle.factor.proofs.Steps.{epigraphs-none, epigraphs-turn}
 use Rattle.residuals.specs.Residuals.{largestWhere, epigraphs}
 use Rattle.residuals.proofs.Section.{where-none}
-use Rattle.derived.proofs.Sums.{points-few}
-use Rattle.factor.proofs.Steps.{epigraphs-none, epigraphs-turn, curved-is}
-use Rattle.residuals.proofs.Room.{epigraphs-le, point-length, curve-room, epigraphOff, epigraph-room, epigraph-turn}
+use Rattle.residuals.proofs.Room.{epigraphs-le, epigraphOff, epigraph-room, epigraph-turn}
 use Rattle.residuals.proofs.single.epigraphs.Statement.{statement}
 use Rattle.residuals.proofs.single.epigraphs.Tie as tie
 
 abbrev Inv-loop : tie.InvT-loop
-Inv-loop words numbers point n k costs at₀ before₀ most₀ g₀ at before most g = (g ≤ k) × (at ≡ generatorAt words g) × (before ≡ epigraphsBefore words g) × (most ≡ largestWhere g (curved words) (epigraphOff words numbers point))
+Inv-loop words numbers point layout n k before₀ most₀ cursor₀ before most cursor =
+    (Standing words layout cursor) × (before ≡ epigraphsBefore words (cursor .index))
+    × (most ≡ largestWhere (cursor .index) (curved words) (epigraphOff words numbers point))
 
 abbrev μ-loop : tie.MeasureT-loop
-μ-loop words numbers point n k costs at₀ before₀ most₀ g₀ at before most g = k - g
+μ-loop words numbers point layout n k before₀ most₀ cursor₀ before most cursor = k - cursor .index
 
-shared-slice-read-header-costs : tie.Need-shared-slice-read-header-costs Inv-loop μ-loop
-shared-slice-read-header-costs c = search needs
-
-header-costs-requires : tie.Need-header-costs-requires Inv-loop μ-loop
-header-costs-requires c κs = search needs
-
-mul-at : tie.Need-mul-at Inv-loop μ-loop
-mul-at c = search needs
+first-generator-requires : tie.Need-first-generator-requires Inv-loop μ-loop
+first-generator-requires c κs =
+    let pre = c .before .before .before .pre in
+    pre .laid .words
 
 loop-holds : tie.Need-loop-holds Inv-loop μ-loop
-loop-holds c = (omega arith, rw (c .before .before .before .before .before .pre .1) (sym (generator-zero _)), sym (epigraphs-none _), where-none _ _)
+loop-holds c =
+    (c .first-generator .ensures .0, rw (c .first-generator .ensures .1) (sym (epigraphs-none _)), rw (c .first-generator .ensures .1) (where-none _ _))
 
-add-w : tie.Need-add-w Inv-loop μ-loop
-add-w c = search needs
-
-add-w-2 : tie.Need-add-w-2 Inv-loop μ-loop
-add-w-2 c = search needs
-
-mul-w : tie.Need-mul-w Inv-loop μ-loop
-mul-w c = search needs
-
-shared-slice-read-w : tie.Need-shared-slice-read-w Inv-loop μ-loop
-shared-slice-read-w c = search needs
-
-generator-points-requires : tie.Need-generator-points-requires Inv-loop μ-loop
-generator-points-requires c κs = search needs
-
-is-curved-requires : tie.Need-is-curved-requires Inv-loop μ-loop
-is-curved-requires c κs = search needs
+generator-of-requires : tie.Need-generator-of-requires Inv-loop μ-loop
+generator-of-requires c κs =
+    let pre = c .before .before .before .before .before .before .before .pre in
+    let loop = c .before .before .loop in
+    (pre .laid, loop .inv .0, c .if1 .taken)
 
 mul-column : tie.Need-mul-column Inv-loop μ-loop
-mul-column c = omega (arith, c .before .before .before .before .before .before .before .before .before .before .pre .0 .good .few-buses, c .before .before .before .before .before .before .before .before .before .before .pre .0 .good .few-generators, c .before .before .before .before .before .before .before .before .before .before .pre .1, c .before .before .before .before .before .before .before .before .before .before .pre .2, c .before .before .before .loop-test .taken, c .before .before .before .before .loop .inv .2, epigraphs-le (c .before .before .before .before .before .before .before .before .before .before .args .words .now) (c .before .before .before .before .loop .g))
+mul-column c =
+    let pre = c .before .before .before .before .before .before .before .before .pre in
+    omega (arith, pre .laid .words .few-buses, pre .laid .words .few-generators, pre .wide, c .before .if1 .taken)
 
 mul-column-2 : tie.Need-mul-column-2 Inv-loop μ-loop
-mul-column-2 c = omega (arith, c .before .before .before .before .before .before .before .before .before .before .pre .0 .good .few-buses, c .before .before .before .before .before .before .before .before .before .before .pre .0 .good .few-generators, c .before .before .before .before .before .before .before .before .before .before .pre .1, c .before .before .before .before .before .before .before .before .before .before .pre .2, c .before .before .before .loop-test .taken, c .before .before .before .before .loop .inv .2, epigraphs-le (c .before .before .before .before .before .before .before .before .before .before .args .words .now) (c .before .before .before .before .loop .g))
+mul-column-2 c =
+    let pre = c .before .before .before .before .before .before .before .before .pre in
+    omega (arith, pre .laid .words .few-buses, pre .laid .words .few-generators, pre .wide, c .before .if1 .taken)
 
 add-column : tie.Need-add-column Inv-loop μ-loop
-add-column c = omega (arith, c .before .before .before .before .before .before .before .before .before .before .pre .0 .good .few-buses, c .before .before .before .before .before .before .before .before .before .before .pre .0 .good .few-generators, c .before .before .before .before .before .before .before .before .before .before .pre .1, c .before .before .before .before .before .before .before .before .before .before .pre .2, c .before .before .before .loop-test .taken, c .before .before .before .before .loop .inv .2, epigraphs-le (c .before .before .before .before .before .before .before .before .before .before .args .words .now) (c .before .before .before .before .loop .g))
+add-column c =
+    let pre = c .before .before .before .before .before .before .before .before .pre in
+    omega (arith, pre .laid .words .few-buses, pre .laid .words .few-generators, pre .wide, c .before .if1 .taken)
 
 add-column-2 : tie.Need-add-column-2 Inv-loop μ-loop
-add-column-2 c = omega (arith, c .before .before .before .before .before .before .before .before .before .before .pre .0 .good .few-buses, c .before .before .before .before .before .before .before .before .before .before .pre .0 .good .few-generators, c .before .before .before .before .before .before .before .before .before .before .pre .1, c .before .before .before .before .before .before .before .before .before .before .pre .2, c .before .before .before .loop-test .taken, c .before .before .before .before .loop .inv .2, epigraphs-le (c .before .before .before .before .before .before .before .before .before .before .args .words .now) (c .before .before .before .before .loop .g))
+add-column-2 c =
+    let args = c .before .before .before .before .before .before .before .before .args in
+    let pre = c .before .before .before .before .before .before .before .before .pre in
+    let loop = c .before .before .before .loop in
+    omega (arith, pre .laid .words .few-buses, pre .laid .words .few-generators, c .before .if1 .taken, loop .inv .1, epigraphs-le (args .words .now) (loop .cursor .index))
 
-add-epigraph : tie.Need-add-epigraph Inv-loop μ-loop
-add-epigraph c = omega (arith, curve-room (c .before .before .before .before .before .before .before .before .before .before .args .words .now) (c .before .before .before .before .before .before .before .before .before .before .args .numbers .now) (c .before .before .before .before .before .before .before .before .before .before .args .point .now) _ _ _ _ (c .before .before .before .before .before .before .before .before .before .before .pre .1) (c .before .before .before .before .before .before .before .before .before .before .pre .2) (c .before .generator-points .ensures) _ (c .before .before .before .before .loop .inv .1) (c .before .before .before .before .before .before .before .before .before .before .pre .0 .good) (c .before .before .before .loop-test .taken))
+mul-pg : tie.Need-mul-pg Inv-loop μ-loop
+mul-pg c =
+    let pre = c .before .before .before .before .before .before .before .before .pre in
+    omega (arith, pre .laid .words .few-buses, pre .laid .words .few-generators, pre .wide, c .before .if1 .taken)
 
-mul-epigraph : tie.Need-mul-epigraph Inv-loop μ-loop
-mul-epigraph c = omega (arith, c .before .before .before .before .before .before .before .before .before .before .pre .0 .good .few-buses, c .before .before .before .before .before .before .before .before .before .before .pre .0 .good .few-generators, c .before .before .before .before .before .before .before .before .before .before .pre .1, c .before .before .before .before .before .before .before .before .before .before .pre .2, c .before .before .before .loop-test .taken, c .before .before .before .before .loop .inv .2, epigraphs-le (c .before .before .before .before .before .before .before .before .before .before .args .words .now) (c .before .before .before .before .loop .g))
+add-pg : tie.Need-add-pg Inv-loop μ-loop
+add-pg c =
+    let pre = c .before .before .before .before .before .before .before .before .before .pre in
+    omega (arith, pre .laid .words .few-buses, pre .laid .words .few-generators, pre .wide, c .before .before .if1 .taken)
 
-add-epigraph-2 : tie.Need-add-epigraph-2 Inv-loop μ-loop
-add-epigraph-2 c = omega (arith, c .before .before .before .before .before .before .before .before .before .before .pre .0 .good .few-buses, c .before .before .before .before .before .before .before .before .before .before .pre .0 .good .few-generators, c .before .before .before .before .before .before .before .before .before .before .pre .1, c .before .before .before .before .before .before .before .before .before .before .pre .2, c .before .before .before .loop-test .taken, c .before .before .before .before .loop .inv .2, epigraphs-le (c .before .before .before .before .before .before .before .before .before .before .args .words .now) (c .before .before .before .before .loop .g))
+mul-pg-2 : tie.Need-mul-pg-2 Inv-loop μ-loop
+mul-pg-2 c =
+    let pre = c .before .before .before .before .before .before .before .before .before .pre in
+    omega (arith, pre .laid .words .few-buses, pre .laid .words .few-generators, pre .wide, c .before .before .if1 .taken)
 
-mul-epigraph-2 : tie.Need-mul-epigraph-2 Inv-loop μ-loop
-mul-epigraph-2 c = omega (arith, c .before .before .before .before .before .before .before .before .before .before .pre .0 .good .few-buses, c .before .before .before .before .before .before .before .before .before .before .pre .0 .good .few-generators, c .before .before .before .before .before .before .before .before .before .before .pre .1, c .before .before .before .before .before .before .before .before .before .before .pre .2, c .before .before .before .loop-test .taken, c .before .before .before .before .loop .inv .2, epigraphs-le (c .before .before .before .before .before .before .before .before .before .before .args .words .now) (c .before .before .before .before .loop .g))
-
-shared-slice-read-epigraph : tie.Need-shared-slice-read-epigraph Inv-loop μ-loop
-shared-slice-read-epigraph c = omega (arith, point-length (c .before .before .before .before .before .before .before .before .before .before .before .pre .0), c .before .before .before .before .before .before .before .before .before .before .before .pre .1, c .before .before .before .before .before .before .before .before .before .before .before .pre .2, c .before .before .before .before .loop-test .taken)
+shared-slice-read-pg : tie.Need-shared-slice-read-pg Inv-loop μ-loop
+shared-slice-read-pg c =
+    let pre = c .before .before .before .before .before .before .before .before .before .before .pre in
+    omega (arith, pre .laid .words .few-buses, pre .laid .words .few-generators, pre .wide, c .before .before .before .if1 .taken)
 
 epigraph-requires : tie.Need-epigraph-requires Inv-loop μ-loop
-epigraph-requires c κs = (omega (arith, curve-room (c .before .before .before .before .before .before .before .before .before .before .before .args .words .now) (c .before .before .before .before .before .before .before .before .before .before .before .args .numbers .now) (c .before .before .before .before .before .before .before .before .before .before .before .args .point .now) _ _ _ _ (c .before .before .before .before .before .before .before .before .before .before .before .pre .1) (c .before .before .before .before .before .before .before .before .before .before .before .pre .2) (c .before .before .generator-points .ensures) _ (c .before .before .before .before .before .loop .inv .1) (c .before .before .before .before .before .before .before .before .before .before .before .pre .0 .good) (c .before .before .before .before .loop-test .taken)), points-few (c .before .before .before .before .before .before .before .before .before .before .before .args .words .now) (c .before .before .before .before .before .before .before .before .before .before .before .args .numbers .now) (c .before .before .before .before .before .before .before .before .before .before .before .pre .0 .good) _ _ _ (c .before .before .before .before .before .before .before .before .before .before .before .pre .1) (c .before .before .generator-points .ensures) (omega (arith, c .before .before .before .before .before .before .before .before .before .before .before .pre .2, c .before .before .before .before .loop-test .taken)), epigraph-room (c .before .before .before .before .before .before .before .before .before .before .before .args .words .now) (c .before .before .before .before .before .before .before .before .before .before .before .args .numbers .now) (c .before .before .before .before .before .before .before .before .before .before .before .args .point .now) _ _ _ _ (c .before .before .before .before .before .before .before .before .before .before .before .pre .1) (c .before .before .before .before .before .before .before .before .before .before .before .pre .2) (c .before .before .generator-points .ensures) _ _ _ (c .before .before .before .before .before .before .header-costs .ensures) (c .before .is-curved .ensures) (c .before .before .before .before .before .loop .inv .2) (c .before .before .before .before .before .before .before .before .before .before .before .pre .0) (c .before .before .before .before .loop-test .taken))
+epigraph-requires c κs =
+    let pre = c .before .before .before .before .before .before .before .before .before .before .pre in
+    let loop = c .before .before .before .before .before .loop in
+    let G = c .before .before .generator-of .ensures in (G .curve, G .points, epigraph-room G pre (loop .inv .1) (c .before .before .before .if1 .taken))
 
 counted-requires : tie.Need-counted-requires Inv-loop μ-loop
-counted-requires c κs = omega (arith, c .before .before .before .before .before .before .before .before .before .before .before .before .pre .0 .good .few-buses, c .before .before .before .before .before .before .before .before .before .before .before .before .pre .0 .good .few-generators, c .before .before .before .before .before .before .before .before .before .before .before .before .pre .1, c .before .before .before .before .before .before .before .before .before .before .before .before .pre .2, c .before .before .before .before .before .loop-test .taken, c .before .before .before .before .before .before .loop .inv .2, epigraphs-le (c .before .before .before .before .before .before .before .before .before .before .before .before .args .words .now) (c .before .before .before .before .before .before .loop .g))
+counted-requires c κs =
+    let args = c .before .before .before .before .before .before .before .before .before .before .before .args in
+    let pre = c .before .before .before .before .before .before .before .before .before .before .before .pre in
+    let loop = c .before .before .before .before .before .before .loop in
+    omega (arith, pre .laid .words .few-generators, c .before .before .before .before .if1 .taken, loop .inv .1, epigraphs-le (args .words .now) (loop .cursor .index))
 
-mul-at-2 : tie.Need-mul-at-2 Inv-loop μ-loop
-mul-at-2 c = omega (arith, curve-room (c .before .before .before .before .before .before .before .before .before .before .before .before .before .args .words .now) (c .before .before .before .before .before .before .before .before .before .before .before .before .before .args .numbers .now) (c .before .before .before .before .before .before .before .before .before .before .before .before .before .args .point .now) _ _ _ _ (c .before .before .before .before .before .before .before .before .before .before .before .before .before .pre .1) (c .before .before .before .before .before .before .before .before .before .before .before .before .before .pre .2) (c .before .before .before .before .generator-points .ensures) _ (c .before .before .before .before .before .before .before .loop .inv .1) (c .before .before .before .before .before .before .before .before .before .before .before .before .before .pre .0 .good) (c .before .before .before .before .before .before .loop-test .taken))
-
-add-at : tie.Need-add-at Inv-loop μ-loop
-add-at c = omega (arith, curve-room (c .before .before .before .before .before .before .before .before .before .before .before .before .before .args .words .now) (c .before .before .before .before .before .before .before .before .before .before .before .before .before .args .numbers .now) (c .before .before .before .before .before .before .before .before .before .before .before .before .before .args .point .now) _ _ _ _ (c .before .before .before .before .before .before .before .before .before .before .before .before .before .pre .1) (c .before .before .before .before .before .before .before .before .before .before .before .before .before .pre .2) (c .before .before .before .before .generator-points .ensures) _ (c .before .before .before .before .before .before .before .loop .inv .1) (c .before .before .before .before .before .before .before .before .before .before .before .before .before .pre .0 .good) (c .before .before .before .before .before .before .loop-test .taken))
-
-add-at-2 : tie.Need-add-at-2 Inv-loop μ-loop
-add-at-2 c = omega (arith, curve-room (c .before .before .before .before .before .before .before .before .before .before .before .before .before .args .words .now) (c .before .before .before .before .before .before .before .before .before .before .before .before .before .args .numbers .now) (c .before .before .before .before .before .before .before .before .before .before .before .before .before .args .point .now) _ _ _ _ (c .before .before .before .before .before .before .before .before .before .before .before .before .before .pre .1) (c .before .before .before .before .before .before .before .before .before .before .before .before .before .pre .2) (c .before .before .before .before .generator-points .ensures) _ (c .before .before .before .before .before .before .before .loop .inv .1) (c .before .before .before .before .before .before .before .before .before .before .before .before .before .pre .0 .good) (c .before .before .before .before .before .before .loop-test .taken))
-
-add-g : tie.Need-add-g Inv-loop μ-loop
-add-g c = search needs
+next-generator-requires : tie.Need-next-generator-requires Inv-loop μ-loop
+next-generator-requires c κs =
+    let pre = c .before .before .before .before .before .before .before .before .before .before .before .before .pre in
+    let loop = c .before .before .before .before .before .before .before .loop in
+    (pre .laid .words, loop .inv .0, c .before .before .before .before .before .if1 .taken)
 
 loop-less : tie.Need-loop-less Inv-loop μ-loop
 loop-less c = search needs
 
 loop-again : tie.Need-loop-again Inv-loop μ-loop
-loop-again c = (omega arith, omega (arith, generator-turn (c .before .before .before .before .before .before .before .before .before .before .before .before .before .args .words .now) (c .before .before .before .before .before .before .before .before .before .before .before .before .before .args .n) (c .before .before .before .before .before .before .before .loop .g) (c .before .before .before .before .before .before .before .loop .at) (c .before .before .before .before .generator-points .result) (c .before .before .before .before .before .before .before .before .before .before .before .before .before .pre .1) (c .before .before .before .before .before .before .before .loop .inv .1) (c .before .before .before .before .generator-points .ensures)), epigraphs-turn _ _ (curved-is _ _ (c .before .before .before .before .before .before .before .before .before .before .before .before .before .pre .1) (c .before .before .before .before .before .before .before .before .header-costs .ensures) (c .before .before .before .before .generator-points .ensures) (c .before .before .before .is-curved .ensures)) (c .counted .ensures .0) (c .before .before .before .before .before .before .before .loop .inv .2), epigraph-turn (c .before .before .before .before .before .before .before .before .before .before .before .before .before .args .words .now) (c .before .before .before .before .before .before .before .before .before .before .before .before .before .args .numbers .now) (c .before .before .before .before .before .before .before .before .before .before .before .before .before .args .point .now) _ _ _ _ (c .before .before .before .before .before .before .before .before .before .before .before .before .before .pre .1) (c .before .before .before .before .before .before .before .before .before .before .before .before .before .pre .2) (c .before .before .before .before .generator-points .ensures) _ _ _ (c .before .before .before .before .before .before .before .before .header-costs .ensures) (c .before .before .before .is-curved .ensures) (c .before .before .before .before .before .before .before .loop .inv .2) _ _ _ (c .before .before .before .before .before .before .before .loop .inv .1) (c .before .before .before .before .before .before .before .loop .inv .3) (c .before .epigraph .ensures))
+loop-again c =
+    let args = c .before .before .before .before .before .before .before .before .before .before .before .before .before .args in
+    let pre = c .before .before .before .before .before .before .before .before .before .before .before .before .before .pre in
+    let loop = c .before .before .before .before .before .before .before .before .loop in
+    let G = c .before .before .before .before .before .generator-of .ensures in
+    let e = c .next-generator .ensures .1 in (
+      c .next-generator .ensures .0,
+      rw e (epigraphs-turn _ _ (ap (λ z. z .curved) (G .is)) (c .before .counted .ensures .0) (loop .inv .1)),
+      rw e (epigraph-turn G (args .point .now) (pre .laid) (loop .inv .1) (loop .inv .2) (c .before .before .epigraph .ensures)),
+    )
 
 returns : tie.Need-returns Inv-loop μ-loop
 unfolding epigraphs
-returns c = let e : c .before .loop .g ≡ generators (c .before .before .before .before .before .before .before .args .words .now) = omega (arith, c .before .before .before .before .before .before .before .pre .2, c .loop-test .left) in rw e at (c .before .loop .inv .3)
+returns c =
+    let args = c .before .before .before .before .before .before .before .args in
+    let pre = c .before .before .before .before .before .before .before .pre in
+    let loop = c .before .before .loop in
+    let e : loop .cursor .index ≡ generators (args .words .now) = omega (arith, ap (λ z. z .generators) (pre .laid .words .is), c .if1 .left, loop .inv .0 .within) in
+    rw e at (loop .inv .2)
 
 pub epigraphs-spec : {M : Type 1} → statement M
 epigraphs-spec =
@@ -110,31 +125,20 @@ epigraphs-spec =
     (tie.spec
     Inv-loop
     μ-loop
-    shared-slice-read-header-costs
-    header-costs-requires
-    mul-at
+    first-generator-requires
     loop-holds
-    add-w
-    add-w-2
-    mul-w
-    shared-slice-read-w
-    generator-points-requires
-    is-curved-requires
+    generator-of-requires
     mul-column
     mul-column-2
     add-column
     add-column-2
-    add-epigraph
-    mul-epigraph
-    add-epigraph-2
-    mul-epigraph-2
-    shared-slice-read-epigraph
+    mul-pg
+    add-pg
+    mul-pg-2
+    shared-slice-read-pg
     epigraph-requires
     counted-requires
-    mul-at-2
-    add-at
-    add-at-2
-    add-g
+    next-generator-requires
     loop-less
     loop-again
     returns)
