@@ -1,7 +1,7 @@
 -- The residuals' own function: each way out of it, and that its refusal is the first.
-use mathlib.Core.Path.{_≡_, ap, sym, _∙_}
+use mathlib.Core.Path.{_≡_, refl, ap, sym, _∙_}
 use mathlib.Core.List.{List, [], _∷_, _++_}
-use Prim.Native.Nat.{ℕ, suc, _+_, _≤_, _<_}
+use Prim.Native.Nat.{ℕ, suc, _+_, _*_, _≤_, _<_}
 use native.Mathlib.Nat.{zero-add}
 use native.Mathlib.Numerals.{add-one}
 use native.Mathlib.Omega.{arith}
@@ -10,14 +10,19 @@ use lib.Seq.{take-length, paste-suc}
 use lib.Ieee.{Float, nan}
 use borrow.Author.Tests.{eq-eqb, ne-eqb, leb-true}
 use Rattle.base.specs.declared.Fault.{Fault}
-use Rattle.base.proofs.Firsts.{Clear, Spans, Section, section, Says, spans-unless, refusal-is-first, or-go, or-stop, unless-true}
-use Rattle.acopf.specs.Factor.{firstNonFinite, networkFault}
-use Rattle.acopf.proofs.Order.{network-spans}
+use Rattle.base.specs.Fault.{orElse, firstOf}
+use Rattle.base.specs.Order.{IsFirst}
+use Rattle.base.proofs.Firsts.{Clear, Spans, spans-unless, or-go, or-stop, unless-true}
+use Rattle.base.proofs.Order.{AllGive, gives-one, give-append, first-append, refusal-is-first}
+use Rattle.network.specs.declared.layout.Layout.{Layout}
+use Rattle.network.specs.Layout.{Laid}
+use Rattle.acopf.specs.Factor.{firstNonFinite, networkSections, networkFault}
+use Rattle.acopf.proofs.Order.{network-give}
 use Rattle.derived.specs.Outputs.{flows}
-use Rattle.derived.specs.Scratch.{listed}
+use Rattle.derived.specs.Scratch.{Held}
 use Rattle.residuals.specs.Residuals.{residuals}
-use Rattle.validate.specs.Check.{solved, faultReport, faultPoint, faultSwing, faultDerived, reported, residualsFault, reportAfter}
-use Rattle.validate.specs.Verdict.{ReportCleared, Held}
+use Rattle.validate.specs.Check.{Solved, solved, faultReport, faultPoint, faultSwing, faultDerived, reported, reportSections, residualsFault, reportAfter}
+use Rattle.validate.specs.Verdict.{ReportCleared}
 use Rattle.validate.proofs.Order.{point-spans, swing-spans, derived-spans}
 use Rattle.validate.proofs.Verdict.{derived-of}
 
@@ -38,18 +43,23 @@ module _ (ws : List ℕ) (xs x : List Float) (solver : Float) where
   unfolding faultReport
   report-spans lent = spans-unless _ 12 _ (omega arith) (omega arith)
 
-  abbrev pub reportSections : ℕ → List Section
-  reportSections lent =
-      section 12 (faultReport ws xs x solver lent) ∷ section 13 (faultPoint ws xs x solver) ∷ section 14 (faultSwing ws xs x solver)
-      ∷ section 15 (faultDerived ws xs x solver (solved ws xs x solver)) ∷ []
+  report-give : (lent : ℕ) (s : Solved) → AllGive (reportSections ws xs x solver lent s)
+  report-give lent s =
+      (gives-one (report-spans lent), (gives-one (point-spans ws xs x solver), (gives-one (swing-spans ws xs x solver), (gives-one (derived-spans ws xs x solver s), tt))))
 
   -- the first in order, of 1 to 15
   pub residuals-refusal : (lent : ℕ) → (Clear (residualsFault ws xs x solver lent) → ⊥)
-      → Says (residualsFault ws xs x solver lent) 0 (section 11 (networkFault ws xs)) (reportSections lent)
+      → IsFirst (residualsFault ws xs x solver lent) (networkSections ws xs ++ reportSections ws xs x solver lent (solved ws xs x solver))
   unfolding residualsFault
   residuals-refusal lent c =
-      refusal-is-first 0 (section 11 (networkFault ws xs)) (reportSections lent)
-      (omega arith, network-spans ws xs, (omega arith, report-spans lent, (omega arith, point-spans ws xs x solver, (omega arith, swing-spans ws xs x solver, (omega arith, derived-spans ws xs x solver _))))) c
+      let s = solved ws xs x solver in
+      refusal-is-first (networkSections ws xs ++ reportSections ws xs x solver lent s)
+      (give-append (networkSections ws xs) (reportSections ws xs x solver lent s) (network-give ws xs) (report-give lent s)) refl c
+
+  -- the network's first, else the first of 12 to 15
+  residuals-is : (lent : ℕ) → residualsFault ws xs x solver lent ≡ orElse (networkFault ws xs) (firstOf (reportSections ws xs x solver lent (solved ws xs x solver)))
+  unfolding residualsFault networkFault
+  residuals-is lent = first-append (networkSections ws xs) (reportSections ws xs x solver lent (solved ws xs x solver)) tt
 
   pub report-room : (lent : ℕ) → Clear (faultReport ws xs x solver lent) → 9 ≤ lent
   unfolding faultReport
@@ -59,25 +69,20 @@ module _ (ws : List ℕ) (xs x : List Float) (solver : Float) where
 
   module _ (lent : ℕ) where
     by-network : (Clear (networkFault ws xs) → ⊥) → networkFault ws xs ≡ residualsFault ws xs x solver lent
-    unfolding residualsFault
-    by-network n = sym (or-stop _ _ n)
+    by-network n = sym (residuals-is lent ∙ or-stop _ _ n)
 
     by-report : Clear (networkFault ws xs) → (Clear (faultReport ws xs x solver lent) → ⊥) → faultReport ws xs x solver lent ≡ residualsFault ws xs x solver lent
-    unfolding residualsFault
-    by-report a n = sym (or-go _ _ a ∙ or-stop _ _ n)
+    by-report a n = sym (residuals-is lent ∙ or-go _ _ a ∙ or-stop _ _ n)
 
     by-point : Clear (networkFault ws xs) → Clear (faultReport ws xs x solver lent) → (Clear (faultPoint ws xs x solver) → ⊥) → faultPoint ws xs x solver ≡ residualsFault ws xs x solver lent
-    unfolding residualsFault
-    by-point a b n = sym (or-go _ _ a ∙ or-go _ _ b ∙ or-stop _ _ n)
+    by-point a b n = sym (residuals-is lent ∙ or-go _ _ a ∙ or-go _ _ b ∙ or-stop _ _ n)
 
     by-swing : Clear (networkFault ws xs) → Clear (faultReport ws xs x solver lent) → Clear (faultPoint ws xs x solver) → (Clear (faultSwing ws xs x solver) → ⊥)
         → faultSwing ws xs x solver ≡ residualsFault ws xs x solver lent
-    unfolding residualsFault
-    by-swing a b c n = sym (or-go _ _ a ∙ or-go _ _ b ∙ or-go _ _ c ∙ or-stop _ _ n)
+    by-swing a b c n = sym (residuals-is lent ∙ or-go _ _ a ∙ or-go _ _ b ∙ or-go _ _ c ∙ or-stop _ _ n)
 
     by-derived : ReportCleared ws xs x solver lent → faultDerived ws xs x solver (solved ws xs x solver) ≡ residualsFault ws xs x solver lent
-    unfolding residualsFault
-    by-derived C = sym (or-go _ _ (C .network) ∙ or-go _ _ (C .report) ∙ or-go _ _ (C .point) ∙ or-go _ _ (C .swing))
+    by-derived C = sym (residuals-is lent ∙ or-go _ _ (C .network) ∙ or-go _ _ (C .report) ∙ or-go _ _ (C .point) ∙ or-go _ _ (C .swing))
 
   module _ (before : List Float) (f : Fault) (refuses : f .number ≡ 0 → ⊥) where
     pub stop : f ≡ residualsFault ws xs x solver (length before) → (f ≡ residualsFault ws xs x solver (length before)) × (before ≡ reportAfter ws xs x solver before)
@@ -100,12 +105,12 @@ module _ (ws : List ℕ) (xs x : List Float) (solver : Float) where
         pub stop-swing : Clear (faultPoint ws xs x solver) → f ≡ faultSwing ws xs x solver → (f ≡ residualsFault ws xs x solver (length before)) × (before ≡ reportAfter ws xs x solver before)
         stop-swing point e = stop (e ∙ by-swing (length before) network report point (number e))
 
--- ---- where they are clear, from the scratch lists
+-- ---- where they are clear, from the scratch list
 
-module _ {ws : List ℕ} {xs x : List Float} {n m : ℕ} {p q pf qf pt qt : List Float} {own : Float} (H : Held ws xs x n m p q pf qf pt qt own) (solver : Float) (before : List Float)
-    (C : ReportCleared ws xs x solver (length before)) (d : Fault) (is : d ≡ firstNonFinite 15 (listed n m p q pf qf pt qt ++ (solver ∷ own ∷ []))) where
+module _ {ws : List ℕ} {xs x : List Float} {l : Layout} {scratch : List Float} {own : Float} (L : Laid ws xs l) (H : Held ws xs x l scratch own) (solver : Float) (before : List Float)
+    (C : ReportCleared ws xs x solver (length before)) (d : Fault) (is : d ≡ firstNonFinite 15 (take (2 * l .buses + 4 * l .branches) scratch ++ (solver ∷ own ∷ []))) where
   whole : d ≡ residualsFault ws xs x solver (length before)
-  whole = derived-of H solver d is ∙ by-derived ws xs x solver (length before) C
+  whole = derived-of L H solver d is ∙ by-derived ws xs x solver (length before) C
 
   -- 15
   pub report-15 : (d .number ≡ 0 → ⊥) → (d ≡ residualsFault ws xs x solver (length before)) × (before ≡ reportAfter ws xs x solver before)

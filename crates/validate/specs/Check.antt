@@ -98,10 +98,14 @@ module _ (ws : List ℕ) (xs x : List Float) (solver : Float) where
   unfoldable pub faultReport : ℕ → Fault
   faultReport lent = unless (leb 9 lent) (fault 12 1)
 
-  -- 1 to 15 as the check's; a residual above its tolerance is no refusal
+  -- 12 to 15 in their order; a residual above its tolerance is no refusal
+  abbrev pub reportSections : ℕ → Solved → List Section
+  reportSections lent s =
+      section (12 ∷ []) (faultReport lent) ∷ section (13 ∷ []) faultPoint ∷ section (14 ∷ []) faultSwing ∷ section (15 ∷ []) (faultDerived s) ∷ []
+
+  -- 1 to 15 as the check's
   unfoldable pub residualsFault : ℕ → Fault
-  residualsFault lent =
-      orElse (networkFault ws xs) (orElse (faultReport lent) (orElse faultPoint (orElse faultSwing (faultDerived solved))))
+  residualsFault lent = firstOf (networkSections ws xs ++ reportSections lent solved)
 
   -- that list after the call
   abbrev pub reportAfter : List Float → List Float

@@ -3,22 +3,26 @@ use crate::point::columns_of;
 use crate::point::point_fault;
 use crate::point::swing_fault;
 use base::Fault;
+use derived::MOST_OUTPUTS;
+use derived::MOST_PER_BUS;
 use derived::derived_fault;
 use derived::flows;
 use derived::injections;
 use derived::own_objective;
+use derived::voltages;
 use factor::network_fault;
-use network::sizes_of;
+use network::Layout;
+use network::layout_of;
 use residuals::residuals_at;
 ghost use mathlib.Core.Path.{_≡_};
 ghost use mathlib.Core.List.{List, _++_};
 ghost use Prim.Native.Nat.{ℕ, _≤_};
 ghost use lib.Ieee.{Float};
 ghost use lib.ListN.{length, drop};
-ghost use Rattle.network.specs.Network.{buses, generators, branches, references};
 ghost use Rattle.derived.specs.Agree.{Ready};
+ghost use Rattle.derived.specs.Scratch.{Held};
 ghost use Rattle.validate.specs.Check.{faultReport, residualsFault, reportAfter};
-ghost use Rattle.validate.specs.Verdict.{ReportCleared, Held};
+ghost use Rattle.validate.specs.Verdict.{ReportCleared};
 
 // 12: the list takes nine numbers.
 fn report_fault(lent: usize) -> Fault
@@ -47,52 +51,30 @@ fn write_nine(report: &mut [f64], nine: [f64; 9])
     }
 }
 
-// 15 and the nine numbers, where 1 to 14 are clear and the scratch lists hold the injections and the flows.
+// 15 and the nine numbers, where 1 to 14 are clear and the scratch list holds the outputs.
 fn settle(
     words: &[u32],
     numbers: &[f64],
     point: &[f64],
-    n: usize,
-    k: usize,
-    m: usize,
-    count: usize,
-    p_from: &[f64],
-    q_from: &[f64],
-    p_to: &[f64],
-    q_to: &[f64],
-    p: [f64; 256],
-    q: [f64; 256],
+    layout: Layout,
+    scratch: &[f64],
     solver: f64,
     own: f64,
     report: &mut [f64],
 ) -> Fault
-    requires { ⌜ (Ready (now words) (now numbers) (now point)) × (n ≡ buses (now words)) × (k ≡ generators (now words)) × (m ≡ branches (now words)) × (count ≡ references (now words))
-        × (9 ≤ length (now report)) × (ReportCleared (now words) (now numbers) (now point) solver (length (now report)))
-        × (Held (now words) (now numbers) (now point) n m p q (now «p_from») (now «q_from») (now «p_to») (now «q_to») own) ⌝ }
-    ensures { λ r. ⌜ (r ≡ residualsFault (now (words .entry)) (now (numbers .entry)) (now (point .entry)) solver (length (now (report .entry))))
-        × (now (report .exit) ≡ reportAfter (now (words .entry)) (now (numbers .entry)) (now (point .entry)) solver (now (report .entry))) ⌝ }
+    requires { ⌜ (Ready (now words) (now numbers) (now point) layout) × (9 ≤ length (now report))
+        × (ReportCleared (now words) (now numbers) (now point) solver (length (now report)))
+        × (Held (now words) (now numbers) (now point) layout (now scratch) own) ⌝ }
+    ensures { λ r. ⌜ (let ws = now (words .entry) in let xs = now (numbers .entry) in let x = now (point .entry) in
+        let before = now (report .entry) in
+        (r ≡ residualsFault ws xs x solver (length before)) × (now (report .exit) ≡ reportAfter ws xs x solver before)) ⌝ }
 {
-    let derived = derived_fault(&p, &q, p_from, q_from, p_to, q_to, n, m, solver, own);
+    let count = 2 * layout.buses + 4 * layout.branches;
+    let derived = derived_fault(scratch, count, solver, own);
     if derived.number != 0 {
         return derived;
     }
-    let r = residuals_at(
-        words,
-        numbers,
-        point,
-        n,
-        k,
-        m,
-        count,
-        p_from,
-        q_from,
-        p_to,
-        q_to,
-        p,
-        q,
-        solver,
-        own,
-    );
+    let r = residuals_at(words, numbers, point, layout, scratch, solver, own);
     write_nine(
         report,
         [r[0], r[1], r[2], r[3], r[4], r[5], r[6], r[7], own],
@@ -105,52 +87,28 @@ fn measured(
     words: &[u32],
     numbers: &[f64],
     point: &[f64],
-    n: usize,
-    k: usize,
-    m: usize,
-    count: usize,
+    layout: Layout,
     solver: f64,
     report: &mut [f64],
 ) -> Fault
-    requires { ⌜ (Ready (now words) (now numbers) (now point)) × (n ≡ buses (now words)) × (k ≡ generators (now words)) × (m ≡ branches (now words)) × (count ≡ references (now words))
-        × (9 ≤ length (now report)) × (ReportCleared (now words) (now numbers) (now point) solver (length (now report))) ⌝ }
-    ensures { λ r. ⌜ (r ≡ residualsFault (now (words .entry)) (now (numbers .entry)) (now (point .entry)) solver (length (now (report .entry))))
-        × (now (report .exit) ≡ reportAfter (now (words .entry)) (now (numbers .entry)) (now (point .entry)) solver (now (report .entry))) ⌝ }
+    requires { ⌜ (Ready (now words) (now numbers) (now point) layout) × (9 ≤ length (now report))
+        × (ReportCleared (now words) (now numbers) (now point) solver (length (now report))) ⌝ }
+    ensures { λ r. ⌜ (let ws = now (words .entry) in let xs = now (numbers .entry) in let x = now (point .entry) in
+        let before = now (report .entry) in
+        (r ≡ residualsFault ws xs x solver (length before)) × (now (report .exit) ≡ reportAfter ws xs x solver before)) ⌝ }
 {
-    let mut pf = [0.0; 512];
-    let mut qf = [0.0; 512];
-    let mut pt = [0.0; 512];
-    let mut qt = [0.0; 512];
-    flows(
-        words,
-        numbers,
-        point,
-        n,
-        k,
-        m,
-        &mut pf,
-        &mut qf,
-        &mut pt,
-        &mut qt,
-    );
-    let mut p = [0.0; 256];
-    let mut q = [0.0; 256];
-    injections(words, numbers, point, n, k, &mut p, &mut q);
-    let own = own_objective(words, numbers, point, n, k);
+    let mut voltage = [0.0; MOST_PER_BUS];
+    voltages(point, layout, &mut voltage);
+    let mut scratch = [0.0; MOST_OUTPUTS];
+    flows(words, numbers, layout, &voltage, &mut scratch);
+    injections(words, numbers, point, layout, &mut scratch);
+    let own = own_objective(words, numbers, point, layout);
     settle(
         words,
         numbers,
         point,
-        n,
-        k,
-        m,
-        count,
-        &pf,
-        &qf,
-        &pt,
-        &qt,
-        p,
-        q,
+        layout,
+        &scratch,
         solver,
         own,
         report,
@@ -166,37 +124,27 @@ pub fn residuals(
     solver_objective: f64,
     report: &mut [f64],
 ) -> Fault
-    ensures { λ r. ⌜ (r ≡ residualsFault (now (words .entry)) (now (numbers .entry)) (now (point .entry)) «solver_objective» (length (now (report .entry))))
-        × (now (report .exit) ≡ reportAfter (now (words .entry)) (now (numbers .entry)) (now (point .entry)) «solver_objective» (now (report .entry))) ⌝ }
+    ensures { λ r. ⌜ (let ws = now (words .entry) in let xs = now (numbers .entry) in let x = now (point .entry) in
+        let before = now (report .entry) in
+        (r ≡ residualsFault ws xs x «solver_objective» (length before))
+        × (now (report .exit) ≡ reportAfter ws xs x «solver_objective» before)) ⌝ }
 {
     let refusal = network_fault(words, numbers);
     if refusal.number != 0 {
         return refusal;
     }
-    let sizes = sizes_of(words);
-    let n = sizes.buses;
-    let k = sizes.generators;
+    let layout = layout_of(words);
     let short = report_fault(report.len());
     if short.number != 0 {
         return short;
     }
-    let given = point_fault(point, columns_of(words, n, k));
+    let given = point_fault(point, columns_of(words, layout));
     if given.number != 0 {
         return given;
     }
-    let swing = swing_fault(point, n);
+    let swing = swing_fault(point, layout.buses);
     if swing.number != 0 {
         return swing;
     }
-    measured(
-        words,
-        numbers,
-        point,
-        n,
-        k,
-        sizes.branches,
-        sizes.references,
-        solver_objective,
-        report,
-    )
+    measured(words, numbers, point, layout, solver_objective, report)
 }
