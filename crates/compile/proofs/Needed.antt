@@ -20,7 +20,7 @@ use Rattle.acopf.specs.Rows.{rows}
 use Rattle.acopf.specs.Factor.{constants64}
 use Rattle.acopf.proofs.Counts.{length-shared}
 use Rattle.factor.specs.NonFinite.{segmentsBefore}
-use Rattle.factor.proofs.Chain.{start-is, start-at}
+use Rattle.rows.proofs.Steps.{start-is, start-at}
 use Rattle.factor.proofs.Sizes.{spreads, objectiveConstants, objectiveWords, count-rows, count-of-constants, count-of-words}
 use Rattle.compile.specs.declared.Compiled.{Compiled}
 use Rattle.compile.specs.declared.decide.Tallies.{Tallies}

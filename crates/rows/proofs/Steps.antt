@@ -11,18 +11,26 @@ use Rattle.base.proofs.Loops.{tally-bit, tally-up}
 use Rattle.base.proofs.Firsts.{Clear}
 use Rattle.float.specs.Number.{zero64}
 use Rattle.network.specs.Fault.{faultTables}
-use Rattle.network.specs.Network.{buses, generators, branches, references, angled, generatorAt, branchAt, number}
+use Rattle.network.specs.Network.{buses, generators, branches, references, angled, generatorAt, branchAt, needed, number}
 use Rattle.network.specs.Word.{branchAngled}
 use Rattle.network.proofs.Good.{good}
 use Rattle.acopf.specs.Rows.{rows}
 use Rattle.factor.specs.NonFinite.{segmentsBefore}
-use Rattle.factor.proofs.Chain.{start-is, start-at}
 use Rattle.factor.proofs.Sizes.{ratings, count-rows}
 use Rattle.factor.proofs.Steps.{tally-next}
 use Rattle.base.specs.Section.{Wrote}
 use Rattle.rows.specs.Bounds.{angleBounds, rowBounds}
 use Rattle.base.proofs.Sections.{wrote-none, each-next, wrote-front, then}
 use Rattle.rows.proofs.Sides.{length-angles, length-bounds}
+
+-- the branches' numbers end the list
+module _ (ws : List ℕ) (xs : List Float) (right : Clear (faultTables ws xs)) where
+  pub start-is : length xs ≡ generatorAt ws (generators ws) + 11 * branches ws
+  unfolding needed branchAt
+  start-is = good ws xs right .numbers
+
+  pub start-at : {m k : ℕ} → m ≡ branches ws → k ≡ generators ws → length xs - 11 * m ≡ generatorAt ws k
+  start-at {m} {k} e f = rw (e, f) (omega (arith, start-is))
 
 pub angled-is : (ws : List ℕ) (b : ℕ) {n k : ℕ} {on : Bool} → n ≡ buses ws → k ≡ generators ws → on ≡ branchAngled (getD ws (1 + n + k + b) 0) → on ≡ angled ws b
 angled-is ws b e f h = h ∙ rw (e, f)
