@@ -129,7 +129,9 @@ slice-write-list-2 : tie.Need-slice-write-list-2 Inv-loop μ-loop
 slice-write-list-2 c =
     let pre = c .before .before .before .before .before .before .before .before .before .before .before .pre in
     let loop = c .before .before .before .before .before .before .loop in
-    simp length-set (omega (arith, pre .0 .words .few-buses, pre .0 .words .few-branches, pre .1, pre .2, loop .inv .1, c .before .before .before .before .before .loop-test .taken, c .before .before .before .before .branch-of .ensures .from, c .before .before .before .before .branch-of .ensures .to))
+    let loop-test′ = c .before .before .before .before .before .loop-test in
+    let branch-of′ = c .before .before .before .before .branch-of in
+    simp length-set (omega (arith, pre .0 .words .few-buses, pre .0 .words .few-branches, pre .1, pre .2, loop .inv .1, loop-test′ .taken, branch-of′ .ensures .from, branch-of′ .ensures .to))
 
 add-list-4 : tie.Need-add-list-4 Inv-loop μ-loop
 add-list-4 c =
@@ -147,121 +149,161 @@ slice-read-list-3 : tie.Need-slice-read-list-3 Inv-loop μ-loop
 slice-read-list-3 c =
     let pre = c .before .before .before .before .before .before .before .before .before .before .before .before .pre in
     let loop = c .before .before .before .before .before .before .before .loop in
-    simp length-set (omega (arith, pre .0 .words .few-buses, pre .0 .words .few-branches, pre .1, pre .2, loop .inv .1, c .before .before .before .before .before .before .loop-test .taken, c .before .before .before .before .before .branch-of .ensures .from, c .before .before .before .before .before .branch-of .ensures .to))
+    let loop-test′ = c .before .before .before .before .before .before .loop-test in
+    let branch-of′ = c .before .before .before .before .before .branch-of in
+    simp length-set (omega (arith, pre .0 .words .few-buses, pre .0 .words .few-branches, pre .1, pre .2, loop .inv .1, loop-test′ .taken, branch-of′ .ensures .from, branch-of′ .ensures .to))
 
 add-list-5 : tie.Need-add-list-5 Inv-loop μ-loop
 add-list-5 c =
     let pre = c .before .before .before .before .before .before .before .before .before .before .before .before .pre in
     let loop = c .before .before .before .before .before .before .before .loop in
-    omega (arith, pre .0 .words .few-buses, pre .0 .words .few-branches, pre .1, pre .2, loop .inv .1, c .before .before .before .before .before .before .loop-test .taken, c .before .before .before .before .before .branch-of .ensures .from, c .before .before .before .before .before .branch-of .ensures .to)
+    let loop-test′ = c .before .before .before .before .before .before .loop-test in
+    let branch-of′ = c .before .before .before .before .before .branch-of in
+    omega (arith, pre .0 .words .few-buses, pre .0 .words .few-branches, pre .1, pre .2, loop .inv .1, loop-test′ .taken, branch-of′ .ensures .from, branch-of′ .ensures .to)
 
 add-list-6 : tie.Need-add-list-6 Inv-loop μ-loop
 add-list-6 c =
     let pre = c .before .before .before .before .before .before .before .before .before .before .before .before .pre in
     let loop = c .before .before .before .before .before .before .before .loop in
-    omega (arith, pre .0 .words .few-buses, pre .0 .words .few-branches, pre .1, pre .2, loop .inv .1, c .before .before .before .before .before .before .loop-test .taken, c .before .before .before .before .before .branch-of .ensures .from, c .before .before .before .before .before .branch-of .ensures .to)
+    let loop-test′ = c .before .before .before .before .before .before .loop-test in
+    let branch-of′ = c .before .before .before .before .before .branch-of in
+    omega (arith, pre .0 .words .few-buses, pre .0 .words .few-branches, pre .1, pre .2, loop .inv .1, loop-test′ .taken, branch-of′ .ensures .from, branch-of′ .ensures .to)
 
 mul-list-9 : tie.Need-mul-list-9 Inv-loop μ-loop
 mul-list-9 c =
     let pre = c .before .before .before .before .before .before .before .before .before .before .before .before .pre in
     let loop = c .before .before .before .before .before .before .before .loop in
-    omega (arith, pre .0 .words .few-buses, pre .0 .words .few-branches, pre .1, pre .2, loop .inv .1, c .before .before .before .before .before .before .loop-test .taken, c .before .before .before .before .before .branch-of .ensures .from, c .before .before .before .before .before .branch-of .ensures .to)
+    let loop-test′ = c .before .before .before .before .before .before .loop-test in
+    let branch-of′ = c .before .before .before .before .before .branch-of in
+    omega (arith, pre .0 .words .few-buses, pre .0 .words .few-branches, pre .1, pre .2, loop .inv .1, loop-test′ .taken, branch-of′ .ensures .from, branch-of′ .ensures .to)
 
 shared-slice-read-list-3 : tie.Need-shared-slice-read-list-3 Inv-loop μ-loop
 shared-slice-read-list-3 c =
     let pre = c .before .before .before .before .before .before .before .before .before .before .before .before .before .pre in
     let loop = c .before .before .before .before .before .before .before .before .loop in
-    omega (arith, pre .0 .words .few-buses, pre .0 .words .few-branches, pre .1, pre .2, loop .inv .1, c .before .before .before .before .before .before .before .loop-test .taken, c .before .before .before .before .before .before .branch-of .ensures .from, c .before .before .before .before .before .before .branch-of .ensures .to)
+    let loop-test′ = c .before .before .before .before .before .before .before .loop-test in
+    let branch-of′ = c .before .before .before .before .before .before .branch-of in
+    omega (arith, pre .0 .words .few-buses, pre .0 .words .few-branches, pre .1, pre .2, loop .inv .1, loop-test′ .taken, branch-of′ .ensures .from, branch-of′ .ensures .to)
 
 add-list-7 : tie.Need-add-list-7 Inv-loop μ-loop
 add-list-7 c =
     let pre = c .before .before .before .before .before .before .before .before .before .before .before .before .before .pre in
     let loop = c .before .before .before .before .before .before .before .before .loop in
-    omega (arith, pre .0 .words .few-buses, pre .0 .words .few-branches, pre .1, pre .2, loop .inv .1, c .before .before .before .before .before .before .before .loop-test .taken, c .before .before .before .before .before .before .branch-of .ensures .from, c .before .before .before .before .before .before .branch-of .ensures .to)
+    let loop-test′ = c .before .before .before .before .before .before .before .loop-test in
+    let branch-of′ = c .before .before .before .before .before .before .branch-of in
+    omega (arith, pre .0 .words .few-buses, pre .0 .words .few-branches, pre .1, pre .2, loop .inv .1, loop-test′ .taken, branch-of′ .ensures .from, branch-of′ .ensures .to)
 
 mul-list-10 : tie.Need-mul-list-10 Inv-loop μ-loop
 mul-list-10 c =
     let pre = c .before .before .before .before .before .before .before .before .before .before .before .before .before .pre in
     let loop = c .before .before .before .before .before .before .before .before .loop in
-    omega (arith, pre .0 .words .few-buses, pre .0 .words .few-branches, pre .1, pre .2, loop .inv .1, c .before .before .before .before .before .before .before .loop-test .taken, c .before .before .before .before .before .before .branch-of .ensures .from, c .before .before .before .before .before .before .branch-of .ensures .to)
+    let loop-test′ = c .before .before .before .before .before .before .before .loop-test in
+    let branch-of′ = c .before .before .before .before .before .before .branch-of in
+    omega (arith, pre .0 .words .few-buses, pre .0 .words .few-branches, pre .1, pre .2, loop .inv .1, loop-test′ .taken, branch-of′ .ensures .from, branch-of′ .ensures .to)
 
 slice-write-list-3 : tie.Need-slice-write-list-3 Inv-loop μ-loop
 slice-write-list-3 c =
     let pre = c .before .before .before .before .before .before .before .before .before .before .before .before .before .pre in
     let loop = c .before .before .before .before .before .before .before .before .loop in
-    simp length-set (omega (arith, pre .0 .words .few-buses, pre .0 .words .few-branches, pre .1, pre .2, loop .inv .1, c .before .before .before .before .before .before .before .loop-test .taken, c .before .before .before .before .before .before .branch-of .ensures .from, c .before .before .before .before .before .before .branch-of .ensures .to))
+    let loop-test′ = c .before .before .before .before .before .before .before .loop-test in
+    let branch-of′ = c .before .before .before .before .before .before .branch-of in
+    simp length-set (omega (arith, pre .0 .words .few-buses, pre .0 .words .few-branches, pre .1, pre .2, loop .inv .1, loop-test′ .taken, branch-of′ .ensures .from, branch-of′ .ensures .to))
 
 add-list-8 : tie.Need-add-list-8 Inv-loop μ-loop
 add-list-8 c =
     let pre = c .before .before .before .before .before .before .before .before .before .before .before .before .before .pre in
     let loop = c .before .before .before .before .before .before .before .before .loop in
-    omega (arith, pre .0 .words .few-buses, pre .0 .words .few-branches, pre .1, pre .2, loop .inv .1, c .before .before .before .before .before .before .before .loop-test .taken, c .before .before .before .before .before .before .branch-of .ensures .from, c .before .before .before .before .before .before .branch-of .ensures .to)
+    let loop-test′ = c .before .before .before .before .before .before .before .loop-test in
+    let branch-of′ = c .before .before .before .before .before .before .branch-of in
+    omega (arith, pre .0 .words .few-buses, pre .0 .words .few-branches, pre .1, pre .2, loop .inv .1, loop-test′ .taken, branch-of′ .ensures .from, branch-of′ .ensures .to)
 
 mul-list-11 : tie.Need-mul-list-11 Inv-loop μ-loop
 mul-list-11 c =
     let pre = c .before .before .before .before .before .before .before .before .before .before .before .before .before .pre in
     let loop = c .before .before .before .before .before .before .before .before .loop in
-    omega (arith, pre .0 .words .few-buses, pre .0 .words .few-branches, pre .1, pre .2, loop .inv .1, c .before .before .before .before .before .before .before .loop-test .taken, c .before .before .before .before .before .before .branch-of .ensures .from, c .before .before .before .before .before .before .branch-of .ensures .to)
+    let loop-test′ = c .before .before .before .before .before .before .before .loop-test in
+    let branch-of′ = c .before .before .before .before .before .before .branch-of in
+    omega (arith, pre .0 .words .few-buses, pre .0 .words .few-branches, pre .1, pre .2, loop .inv .1, loop-test′ .taken, branch-of′ .ensures .from, branch-of′ .ensures .to)
 
 slice-read-list-4 : tie.Need-slice-read-list-4 Inv-loop μ-loop
 slice-read-list-4 c =
     let pre = c .before .before .before .before .before .before .before .before .before .before .before .before .before .before .pre in
     let loop = c .before .before .before .before .before .before .before .before .before .loop in
-    simp length-set (omega (arith, pre .0 .words .few-buses, pre .0 .words .few-branches, pre .1, pre .2, loop .inv .1, c .before .before .before .before .before .before .before .before .loop-test .taken, c .before .before .before .before .before .before .before .branch-of .ensures .from, c .before .before .before .before .before .before .before .branch-of .ensures .to))
+    let loop-test′ = c .before .before .before .before .before .before .before .before .loop-test in
+    let branch-of′ = c .before .before .before .before .before .before .before .branch-of in
+    simp length-set (omega (arith, pre .0 .words .few-buses, pre .0 .words .few-branches, pre .1, pre .2, loop .inv .1, loop-test′ .taken, branch-of′ .ensures .from, branch-of′ .ensures .to))
 
 mul-list-12 : tie.Need-mul-list-12 Inv-loop μ-loop
 mul-list-12 c =
     let pre = c .before .before .before .before .before .before .before .before .before .before .before .before .before .before .pre in
     let loop = c .before .before .before .before .before .before .before .before .before .loop in
-    omega (arith, pre .0 .words .few-buses, pre .0 .words .few-branches, pre .1, pre .2, loop .inv .1, c .before .before .before .before .before .before .before .before .loop-test .taken, c .before .before .before .before .before .before .before .branch-of .ensures .from, c .before .before .before .before .before .before .before .branch-of .ensures .to)
+    let loop-test′ = c .before .before .before .before .before .before .before .before .loop-test in
+    let branch-of′ = c .before .before .before .before .before .before .before .branch-of in
+    omega (arith, pre .0 .words .few-buses, pre .0 .words .few-branches, pre .1, pre .2, loop .inv .1, loop-test′ .taken, branch-of′ .ensures .from, branch-of′ .ensures .to)
 
 add-list-9 : tie.Need-add-list-9 Inv-loop μ-loop
 add-list-9 c =
     let pre = c .before .before .before .before .before .before .before .before .before .before .before .before .before .before .pre in
     let loop = c .before .before .before .before .before .before .before .before .before .loop in
-    omega (arith, pre .0 .words .few-buses, pre .0 .words .few-branches, pre .1, pre .2, loop .inv .1, c .before .before .before .before .before .before .before .before .loop-test .taken, c .before .before .before .before .before .before .before .branch-of .ensures .from, c .before .before .before .before .before .before .before .branch-of .ensures .to)
+    let loop-test′ = c .before .before .before .before .before .before .before .before .loop-test in
+    let branch-of′ = c .before .before .before .before .before .before .before .branch-of in
+    omega (arith, pre .0 .words .few-buses, pre .0 .words .few-branches, pre .1, pre .2, loop .inv .1, loop-test′ .taken, branch-of′ .ensures .from, branch-of′ .ensures .to)
 
 add-list-10 : tie.Need-add-list-10 Inv-loop μ-loop
 add-list-10 c =
     let pre = c .before .before .before .before .before .before .before .before .before .before .before .before .before .before .pre in
     let loop = c .before .before .before .before .before .before .before .before .before .loop in
-    omega (arith, pre .0 .words .few-buses, pre .0 .words .few-branches, pre .1, pre .2, loop .inv .1, c .before .before .before .before .before .before .before .before .loop-test .taken, c .before .before .before .before .before .before .before .branch-of .ensures .from, c .before .before .before .before .before .before .before .branch-of .ensures .to)
+    let loop-test′ = c .before .before .before .before .before .before .before .before .loop-test in
+    let branch-of′ = c .before .before .before .before .before .before .before .branch-of in
+    omega (arith, pre .0 .words .few-buses, pre .0 .words .few-branches, pre .1, pre .2, loop .inv .1, loop-test′ .taken, branch-of′ .ensures .from, branch-of′ .ensures .to)
 
 mul-list-13 : tie.Need-mul-list-13 Inv-loop μ-loop
 mul-list-13 c =
     let pre = c .before .before .before .before .before .before .before .before .before .before .before .before .before .before .pre in
     let loop = c .before .before .before .before .before .before .before .before .before .loop in
-    omega (arith, pre .0 .words .few-buses, pre .0 .words .few-branches, pre .1, pre .2, loop .inv .1, c .before .before .before .before .before .before .before .before .loop-test .taken, c .before .before .before .before .before .before .before .branch-of .ensures .from, c .before .before .before .before .before .before .before .branch-of .ensures .to)
+    let loop-test′ = c .before .before .before .before .before .before .before .before .loop-test in
+    let branch-of′ = c .before .before .before .before .before .before .before .branch-of in
+    omega (arith, pre .0 .words .few-buses, pre .0 .words .few-branches, pre .1, pre .2, loop .inv .1, loop-test′ .taken, branch-of′ .ensures .from, branch-of′ .ensures .to)
 
 shared-slice-read-list-4 : tie.Need-shared-slice-read-list-4 Inv-loop μ-loop
 shared-slice-read-list-4 c =
     let pre = c .before .before .before .before .before .before .before .before .before .before .before .before .before .before .before .pre in
     let loop = c .before .before .before .before .before .before .before .before .before .before .loop in
-    omega (arith, pre .0 .words .few-buses, pre .0 .words .few-branches, pre .1, pre .2, loop .inv .1, c .before .before .before .before .before .before .before .before .before .loop-test .taken, c .before .before .before .before .before .before .before .before .branch-of .ensures .from, c .before .before .before .before .before .before .before .before .branch-of .ensures .to)
+    let loop-test′ = c .before .before .before .before .before .before .before .before .before .loop-test in
+    let branch-of′ = c .before .before .before .before .before .before .before .before .branch-of in
+    omega (arith, pre .0 .words .few-buses, pre .0 .words .few-branches, pre .1, pre .2, loop .inv .1, loop-test′ .taken, branch-of′ .ensures .from, branch-of′ .ensures .to)
 
 add-list-11 : tie.Need-add-list-11 Inv-loop μ-loop
 add-list-11 c =
     let pre = c .before .before .before .before .before .before .before .before .before .before .before .before .before .before .before .pre in
     let loop = c .before .before .before .before .before .before .before .before .before .before .loop in
-    omega (arith, pre .0 .words .few-buses, pre .0 .words .few-branches, pre .1, pre .2, loop .inv .1, c .before .before .before .before .before .before .before .before .before .loop-test .taken, c .before .before .before .before .before .before .before .before .branch-of .ensures .from, c .before .before .before .before .before .before .before .before .branch-of .ensures .to)
+    let loop-test′ = c .before .before .before .before .before .before .before .before .before .loop-test in
+    let branch-of′ = c .before .before .before .before .before .before .before .before .branch-of in
+    omega (arith, pre .0 .words .few-buses, pre .0 .words .few-branches, pre .1, pre .2, loop .inv .1, loop-test′ .taken, branch-of′ .ensures .from, branch-of′ .ensures .to)
 
 mul-list-14 : tie.Need-mul-list-14 Inv-loop μ-loop
 mul-list-14 c =
     let pre = c .before .before .before .before .before .before .before .before .before .before .before .before .before .before .before .pre in
     let loop = c .before .before .before .before .before .before .before .before .before .before .loop in
-    omega (arith, pre .0 .words .few-buses, pre .0 .words .few-branches, pre .1, pre .2, loop .inv .1, c .before .before .before .before .before .before .before .before .before .loop-test .taken, c .before .before .before .before .before .before .before .before .branch-of .ensures .from, c .before .before .before .before .before .before .before .before .branch-of .ensures .to)
+    let loop-test′ = c .before .before .before .before .before .before .before .before .before .loop-test in
+    let branch-of′ = c .before .before .before .before .before .before .before .before .branch-of in
+    omega (arith, pre .0 .words .few-buses, pre .0 .words .few-branches, pre .1, pre .2, loop .inv .1, loop-test′ .taken, branch-of′ .ensures .from, branch-of′ .ensures .to)
 
 slice-write-list-4 : tie.Need-slice-write-list-4 Inv-loop μ-loop
 slice-write-list-4 c =
     let pre = c .before .before .before .before .before .before .before .before .before .before .before .before .before .before .before .pre in
     let loop = c .before .before .before .before .before .before .before .before .before .before .loop in
-    simp length-set (omega (arith, pre .0 .words .few-buses, pre .0 .words .few-branches, pre .1, pre .2, loop .inv .1, c .before .before .before .before .before .before .before .before .before .loop-test .taken, c .before .before .before .before .before .before .before .before .branch-of .ensures .from, c .before .before .before .before .before .before .before .before .branch-of .ensures .to))
+    let loop-test′ = c .before .before .before .before .before .before .before .before .before .loop-test in
+    let branch-of′ = c .before .before .before .before .before .before .before .before .branch-of in
+    simp length-set (omega (arith, pre .0 .words .few-buses, pre .0 .words .few-branches, pre .1, pre .2, loop .inv .1, loop-test′ .taken, branch-of′ .ensures .from, branch-of′ .ensures .to))
 
 add-b : tie.Need-add-b Inv-loop μ-loop
 add-b c =
     let pre = c .before .before .before .before .before .before .before .before .before .before .before .before .before .before .before .pre in
     let loop = c .before .before .before .before .before .before .before .before .before .before .loop in
-    omega (arith, pre .0 .words .few-buses, pre .0 .words .few-branches, pre .1, pre .2, loop .inv .1, c .before .before .before .before .before .before .before .before .before .loop-test .taken, c .before .before .before .before .before .before .before .before .branch-of .ensures .from, c .before .before .before .before .before .before .before .before .branch-of .ensures .to)
+    let loop-test′ = c .before .before .before .before .before .before .before .before .before .loop-test in
+    let branch-of′ = c .before .before .before .before .before .before .before .before .branch-of in
+    omega (arith, pre .0 .words .few-buses, pre .0 .words .few-branches, pre .1, pre .2, loop .inv .1, loop-test′ .taken, branch-of′ .ensures .from, branch-of′ .ensures .to)
 
 loop-less : tie.Need-loop-less Inv-loop μ-loop
 loop-less c = search needs

@@ -80,10 +80,16 @@ loop-less c = search needs
 loop-again : tie.Need-loop-again Inv-loop μ-loop
 loop-again c =
     let args = c .before .before .before .before .before .before .before .before .before .before .before .before .before .before .before .before .before .before .args in
-    let loop = c .before .before .before .before .before .before .before .before .before .before .before .before .before .loop in (
+    let loop = c .before .before .before .before .before .before .before .before .before .before .before .before .before .loop in
+    let generator-of′ = c .before .before .before .before .before .before .before .before .before .generator-of in
+    let lower-bound′ = c .before .before .before .before .before .before .before .lower-bound in
+    let upper-bound′ = c .before .before .before .before .before .upper-bound in
+    let picked′ = c .before .before .before .before .before .before .before .before .picked in
+    let picked2′ = c .before .before .before .before .before .before .picked2 in (
       c .next-generator .ensures .0,
       rw (c .next-generator .ensures .1) (with-next _ _ _ _ _ (loop .inv .1)
-          (c .before .maximum .ensures ∙ ap (maximum (loop .most)) (c .before .before .positive-violation .ensures ∙ bounds-turn (c .before .before .before .before .before .before .before .before .before .generator-of .ensures) (args .active) _ (c .before .before .before .before .before .before .before .lower-bound .result) (c .before .before .before .before .before .upper-bound .result) (c .before .before .before .before .before .before .before .lower-bound .ensures ∙ rw (c .before .before .before .before .before .before .before .before .picked .ensures)) (c .before .before .before .before .before .upper-bound .ensures ∙ rw (c .before .before .before .before .before .before .picked2 .ensures))))),
+          (c .before .maximum .ensures ∙ ap (maximum (loop .most)) (c .before .before .positive-violation .ensures
+          ∙ bounds-turn (generator-of′ .ensures) (args .active) _ (lower-bound′ .result) (upper-bound′ .result) (lower-bound′ .ensures ∙ rw (picked′ .ensures)) (upper-bound′ .ensures ∙ rw (picked2′ .ensures))))),
     )
 
 returns : tie.Need-returns Inv-loop μ-loop

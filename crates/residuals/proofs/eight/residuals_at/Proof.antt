@@ -31,7 +31,8 @@ slice-aggregate-residuals-of c = search needs
 residuals-of-requires : tie.Need-residuals-of-requires
 residuals-of-requires c κs =
     let pre = c .before .before .before .before .before .before .before .before .before .before .before .before .pre in
-    (pre .0, pre .1, balanced _ _ _ _ (pre .1) (c .before .before .before .before .before .copy-front .ensures) (omega (arith, pre .0 .laid .words .few-buses, c .before .before .before .before .before .copy-front .kept .1 .1 .0, c .before .before .balances .kept .1 .1 .1 .1 .0)) (c .before .before .balances .ensures))
+    let copy-front′ = c .before .before .before .before .before .copy-front in
+    (pre .0, pre .1, balanced _ _ _ _ (pre .1) (copy-front′ .ensures) (omega (arith, pre .0 .laid .words .few-buses, copy-front′ .kept .1 .1 .0, c .before .before .balances .kept .1 .1 .1 .1 .0)) (c .before .before .balances .ensures))
 
 returns : tie.Need-returns
 returns c = search needs

@@ -111,17 +111,25 @@ refused-requires-3 c κs = search needs
 returns-3 : tie.Need-returns-3
 returns-3 c =
     let args = c .before .before .before .before .before .before .before .before .before .before .before .before .before .before .before .before .before .before .args in
+    let network-fault′ = c .before .before .before .before .before .before .before .before .before .before .before .before .before .network-fault in
+    let if1′ = c .before .before .before .before .before .before .before .before .before .before .before .if1 in
+    let shared-slice-known2′ = c .before .before .before .before .before .before .before .before .before .before .before .before .before .before .before .before .shared-slice-known2 in
+    let layout-of′ = c .before .before .before .before .before .before .before .before .before .before .layout-of in
+    let output-fault′ = c .before .before .before .before .before .before .before .output-fault in
+    let if2′ = c .before .before .before .before .before .if2 in
+    let point-fault′ = c .before .before .before .point-fault in
+    let columns-of′ = c .before .before .before .before .columns-of in
     let w = args .words .now in
     let x = args .numbers .now in
     let p = args .point .now in
     let s = args .solver-objective in
     let o = args .outputs .now in
-    let network = ap (λ f. f .number) (sym (c .before .before .before .before .before .before .before .before .before .before .before .before .before .network-fault .ensures)) ∙ c .before .before .before .before .before .before .before .before .before .before .before .if1 .left in
-    let L = network-laid w x network (c .before .before .before .before .before .before .before .before .before .before .before .before .before .before .before .before .shared-slice-known2 .given) (c .before .before .before .before .before .before .before .before .before .before .layout-of .ensures) in
+    let network = ap (λ f. f .number) (sym (network-fault′ .ensures)) ∙ if1′ .left in
+    let L = network-laid w x network (shared-slice-known2′ .given) (layout-of′ .ensures) in
     let n = ap (λ z. z .buses) (L .words .is) in
-    let k : 2 * c .before .before .before .before .before .before .before .before .before .before .layout-of .result .buses + 4 * c .before .before .before .before .before .before .before .before .before .before .layout-of .result .branches ≡ 2 * buses w + 4 * branches w = omega (arith, n, ap (λ z. z .branches) (L .words .is)) in
-    let output = ap (λ f. f .number) (sym (c .before .before .before .before .before .before .before .output-fault .ensures w x p s k)) ∙ c .before .before .before .before .before .if2 .left in
-    stop-point w x p s o (c .before .before .before .point-fault .result) (c .refused3 .result) (c .refused3 .ensures) (c .before .if3 .taken) network output (c .before .before .before .point-fault .ensures w x s (c .before .before .before .before .columns-of .ensures .0))
+    let k : 2 * layout-of′ .result .buses + 4 * layout-of′ .result .branches ≡ 2 * buses w + 4 * branches w = omega (arith, n, ap (λ z. z .branches) (L .words .is)) in
+    let output = ap (λ f. f .number) (sym (output-fault′ .ensures w x p s k)) ∙ if2′ .left in
+    stop-point w x p s o (point-fault′ .result) (c .refused3 .result) (c .refused3 .ensures) (c .before .if3 .taken) network output (point-fault′ .ensures w x s (columns-of′ .ensures .0))
 
 swing-fault-requires : tie.Need-swing-fault-requires
 swing-fault-requires c κs =
@@ -143,34 +151,54 @@ refused-requires-4 c κs = search needs
 returns-4 : tie.Need-returns-4
 returns-4 c =
     let args = c .before .before .before .before .before .before .before .before .before .before .before .before .before .before .before .before .before .before .before .before .before .args in
+    let network-fault′ = c .before .before .before .before .before .before .before .before .before .before .before .before .before .before .before .before .network-fault in
+    let if1′ = c .before .before .before .before .before .before .before .before .before .before .before .before .before .before .if1 in
+    let shared-slice-known2′ = c .before .before .before .before .before .before .before .before .before .before .before .before .before .before .before .before .before .before .before .shared-slice-known2 in
+    let layout-of′ = c .before .before .before .before .before .before .before .before .before .before .before .before .before .layout-of in
+    let output-fault′ = c .before .before .before .before .before .before .before .before .before .before .output-fault in
+    let if2′ = c .before .before .before .before .before .before .before .before .if2 in
+    let point-fault′ = c .before .before .before .before .before .before .point-fault in
+    let columns-of′ = c .before .before .before .before .before .before .before .columns-of in
+    let if3′ = c .before .before .before .before .if3 in
+    let swing-fault′ = c .before .before .before .swing-fault in
     let w = args .words .now in
     let x = args .numbers .now in
     let p = args .point .now in
     let s = args .solver-objective in
     let o = args .outputs .now in
-    let network = ap (λ f. f .number) (sym (c .before .before .before .before .before .before .before .before .before .before .before .before .before .before .before .before .network-fault .ensures)) ∙ c .before .before .before .before .before .before .before .before .before .before .before .before .before .before .if1 .left in
-    let L = network-laid w x network (c .before .before .before .before .before .before .before .before .before .before .before .before .before .before .before .before .before .before .before .shared-slice-known2 .given) (c .before .before .before .before .before .before .before .before .before .before .before .before .before .layout-of .ensures) in
+    let network = ap (λ f. f .number) (sym (network-fault′ .ensures)) ∙ if1′ .left in
+    let L = network-laid w x network (shared-slice-known2′ .given) (layout-of′ .ensures) in
     let n = ap (λ z. z .buses) (L .words .is) in
-    let k : 2 * c .before .before .before .before .before .before .before .before .before .before .before .before .before .layout-of .result .buses + 4 * c .before .before .before .before .before .before .before .before .before .before .before .before .before .layout-of .result .branches ≡ 2 * buses w + 4 * branches w = omega (arith, n, ap (λ z. z .branches) (L .words .is)) in
-    let output = ap (λ f. f .number) (sym (c .before .before .before .before .before .before .before .before .before .before .output-fault .ensures w x p s k)) ∙ c .before .before .before .before .before .before .before .before .if2 .left in
-    let point = ap (λ f. f .number) (sym (c .before .before .before .before .before .before .point-fault .ensures w x s (c .before .before .before .before .before .before .before .columns-of .ensures .0))) ∙ c .before .before .before .before .if3 .left in
-    stop-swing w x p s o (c .before .before .before .swing-fault .result) (c .refused4 .result) (c .refused4 .ensures) (c .before .if4 .taken) network output point (c .before .before .before .swing-fault .ensures w x s n)
+    let k : 2 * layout-of′ .result .buses + 4 * layout-of′ .result .branches ≡ 2 * buses w + 4 * branches w = omega (arith, n, ap (λ z. z .branches) (L .words .is)) in
+    let output = ap (λ f. f .number) (sym (output-fault′ .ensures w x p s k)) ∙ if2′ .left in
+    let point = ap (λ f. f .number) (sym (point-fault′ .ensures w x s (columns-of′ .ensures .0))) ∙ if3′ .left in
+    stop-swing w x p s o (swing-fault′ .result) (c .refused4 .result) (c .refused4 .ensures) (c .before .if4 .taken) network output point (swing-fault′ .ensures w x s n)
 
 verdict-requires : tie.Need-verdict-requires
 verdict-requires c κs =
     let args = c .before .before .before .before .before .before .before .before .before .before .before .before .before .before .before .before .before .before .before .before .before .args in
+    let network-fault′ = c .before .before .before .before .before .before .before .before .before .before .before .before .before .before .before .before .network-fault in
+    let if1′ = c .before .before .before .before .before .before .before .before .before .before .before .before .before .before .if1 in
+    let shared-slice-known2′ = c .before .before .before .before .before .before .before .before .before .before .before .before .before .before .before .before .before .before .before .shared-slice-known2 in
+    let layout-of′ = c .before .before .before .before .before .before .before .before .before .before .before .before .before .layout-of in
+    let output-fault′ = c .before .before .before .before .before .before .before .before .before .before .output-fault in
+    let if2′ = c .before .before .before .before .before .before .before .before .if2 in
+    let point-fault′ = c .before .before .before .before .before .before .point-fault in
+    let columns-of′ = c .before .before .before .before .before .before .before .columns-of in
+    let if3′ = c .before .before .before .before .if3 in
+    let swing-fault′ = c .before .before .before .swing-fault in
     let w = args .words .now in
     let x = args .numbers .now in
     let p = args .point .now in
     let s = args .solver-objective in
     let o = args .outputs .now in
-    let network = ap (λ f. f .number) (sym (c .before .before .before .before .before .before .before .before .before .before .before .before .before .before .before .before .network-fault .ensures)) ∙ c .before .before .before .before .before .before .before .before .before .before .before .before .before .before .if1 .left in
-    let L = network-laid w x network (c .before .before .before .before .before .before .before .before .before .before .before .before .before .before .before .before .before .before .before .shared-slice-known2 .given) (c .before .before .before .before .before .before .before .before .before .before .before .before .before .layout-of .ensures) in
+    let network = ap (λ f. f .number) (sym (network-fault′ .ensures)) ∙ if1′ .left in
+    let L = network-laid w x network (shared-slice-known2′ .given) (layout-of′ .ensures) in
     let n = ap (λ z. z .buses) (L .words .is) in
-    let k : 2 * c .before .before .before .before .before .before .before .before .before .before .before .before .before .layout-of .result .buses + 4 * c .before .before .before .before .before .before .before .before .before .before .before .before .before .layout-of .result .branches ≡ 2 * buses w + 4 * branches w = omega (arith, n, ap (λ z. z .branches) (L .words .is)) in
-    let output = ap (λ f. f .number) (sym (c .before .before .before .before .before .before .before .before .before .before .output-fault .ensures w x p s k)) ∙ c .before .before .before .before .before .before .before .before .if2 .left in
-    let point = ap (λ f. f .number) (sym (c .before .before .before .before .before .before .point-fault .ensures w x s (c .before .before .before .before .before .before .before .columns-of .ensures .0))) ∙ c .before .before .before .before .if3 .left in
-    let swing = ap (λ f. f .number) (sym (c .before .before .before .swing-fault .ensures w x s n)) ∙ c .before .if4 .left in
+    let k : 2 * layout-of′ .result .buses + 4 * layout-of′ .result .branches ≡ 2 * buses w + 4 * branches w = omega (arith, n, ap (λ z. z .branches) (L .words .is)) in
+    let output = ap (λ f. f .number) (sym (output-fault′ .ensures w x p s k)) ∙ if2′ .left in
+    let point = ap (λ f. f .number) (sym (point-fault′ .ensures w x s (columns-of′ .ensures .0))) ∙ if3′ .left in
+    let swing = ap (λ f. f .number) (sym (swing-fault′ .ensures w x s n)) ∙ c .before .if4 .left in
     (ready L (point-given w x p s point), omega (arith, k, output-room w x p s (length o) output), record { network = network; output = output; point = point; swing = swing })
 
 same-length : tie.Need-same-length

@@ -45,7 +45,10 @@ returns-2 : tie.Need-returns-2
 returns-2 c =
     let args = c .before .before .before .before .before .before .before .before .before .before .before .before .before .before .args in
     let pre = c .before .before .before .before .before .before .before .before .before .before .before .before .before .before .pre in
-    says-16 (pre .0 .laid) (pre .3) (args .solver) (args .outputs .now) (pre .2) (c .before .before .before .before .before .before .derived-fault .result) (c .before .before .before .before .before .before .derived-fault .ensures) (c .before .before .residual-fault .result) (c .before .before .before .residuals-at .result) (c .before .before .before .before .if1 .left) (c .before .before .before .residuals-at .ensures) (c .before .before .residual-fault .ensures) (c .if2 .taken)
+    let derived-fault′ = c .before .before .before .before .before .before .derived-fault in
+    let residuals-at′ = c .before .before .before .residuals-at in
+    let if1′ = c .before .before .before .before .if1 in
+    says-16 (pre .0 .laid) (pre .3) (args .solver) (args .outputs .now) (pre .2) (derived-fault′ .result) (derived-fault′ .ensures) (c .before .before .residual-fault .result) (residuals-at′ .result) (if1′ .left) (residuals-at′ .ensures) (c .before .before .residual-fault .ensures) (c .if2 .taken)
 
 copy-front-requires : tie.Need-copy-front-requires
 copy-front-requires c κs =
@@ -59,7 +62,13 @@ returns-3 : tie.Need-returns-3
 returns-3 c =
     let args = c .before .before .before .before .before .before .before .before .before .before .before .before .before .before .before .before .before .before .args in
     let pre = c .before .before .before .before .before .before .before .before .before .before .before .before .before .before .before .before .before .before .pre in
-    says-0 (pre .0 .laid) (pre .3) (args .solver) (args .outputs .now) (pre .2) (c .before .before .before .before .before .before .before .before .before .before .derived-fault .result) (c .before .before .before .before .before .before .before .before .before .before .derived-fault .ensures) (c .before .before .before .before .before .before .residual-fault .result) (c .before .before .before .before .before .before .before .residuals-at .result) _ (c .before .before .before .before .before .before .before .before .if1 .left) (c .before .before .before .before .before .before .before .residuals-at .ensures) (c .before .before .before .before .before .before .residual-fault .ensures) (c .before .before .before .before .if2 .left) (c .before .before .copy-front .ensures)
+    let derived-fault′ = c .before .before .before .before .before .before .before .before .before .before .derived-fault in
+    let residual-fault′ = c .before .before .before .before .before .before .residual-fault in
+    let residuals-at′ = c .before .before .before .before .before .before .before .residuals-at in
+    let if1′ = c .before .before .before .before .before .before .before .before .if1 in
+    let if2′ = c .before .before .before .before .if2 in
+    says-0 (pre .0 .laid) (pre .3) (args .solver) (args .outputs .now) (pre .2) (derived-fault′ .result) (derived-fault′ .ensures)
+    (residual-fault′ .result) (residuals-at′ .result) _ (if1′ .left) (residuals-at′ .ensures) (residual-fault′ .ensures) (if2′ .left) (c .before .before .copy-front .ensures)
 
 pub judge-spec : {M : Type 1} → statement M
 judge-spec =
