@@ -18,6 +18,7 @@ use Rattle.network.specs.Fault.{faultWords, faultSize, faultTables}
 use Rattle.network.specs.declared.layout.Layout.{Layout}
 use Rattle.network.specs.Layout.{layoutOf, LaidWords, Laid}
 use Rattle.network.proofs.Form.{laid}
+use Rattle.network.proofs.Good.{Good, good}
 use Rattle.acopf.specs.Factor.{faultFactor, networkSections, networkFault, firstNonFinite}
 use Rattle.acopf.proofs.Order.{network-is, network-refusal}
 use Rattle.validate.specs.declared.Checked.{Checked}
@@ -44,6 +45,9 @@ module _ (ws : List ℕ) (xs : List Float) where
 
   tables-of : Clear (networkFault ws xs) → Clear (faultTables ws xs)
   tables-of clear = or-left (faultTables ws xs) (faultFactor ws xs) (ap (λ f. f .number) (sym (network-is ws xs)) ∙ clear)
+
+  pub network-good : Clear (networkFault ws xs) → Good ws xs
+  network-good c = good ws xs (tables-of c)
 
   -- what a layout asks of the words
   pub words-clear : Clear (networkFault ws xs) → Clear (faultWords ws) × Clear (faultSize ws)

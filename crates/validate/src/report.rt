@@ -103,16 +103,7 @@ fn measured(
     flows(words, numbers, layout, &voltage, &mut scratch);
     injections(words, numbers, point, layout, &mut scratch);
     let own = own_objective(words, numbers, point, layout);
-    settle(
-        words,
-        numbers,
-        point,
-        layout,
-        &scratch,
-        solver,
-        own,
-        report,
-    )
+    settle(words, numbers, point, layout, &scratch, solver, own, report)
 }
 
 // The eight residuals and then the objective, in the front of the list of nine, where 1 to 15 refuse nothing. After a refusal the list is

@@ -130,7 +130,7 @@ returns-2 c =
         row-lower = as-written _ _ _ is (rowLower ws xs) (s .row-lower .now) yes (c .before .before .before .before .before .before .write-row-lower .ensures);
         row-upper = as-written _ _ _ is (rowUpper ws xs) (s .row-upper .now) yes (c .before .before .write-row-upper .ensures);
       },
-      c .before .before .before .before .before .before .before .before .before .before .before .before .before .before .before .before .before .before .before .before .before .before .before .before .before .before .before .before .before .before .before .before .before .before .before .before .before .before .shared-slice-known2 .given,
+      c .before .before .before .before .before .before .before .before .before .before .before .before .before .before .before .before .before .before .before .before .before .before .before .before .before .before .before .before .before .before .before .before .before .before .before .before .before .before .before .shared-slice-known2 .given,
     )
 
 pub compile-spec : {M : Type 1} → statement M

@@ -10,7 +10,7 @@ slice-aggregate-voltages c = search needs
 
 voltages-requires : tie.Need-voltages-requires
 voltages-requires c κs =
-    let pre = @pre in
+    let pre = c .before .before .before .before .before .pre in
     (omega (arith, pre .0 .wide), omega (arith, pre .0 .laid .words .few-buses), pre .0 .laid .words .few-buses)
 
 slice-aggregate-flows : tie.Need-slice-aggregate-flows
@@ -21,20 +21,20 @@ slice-aggregate-flows-2 c = search needs
 
 flows-requires : tie.Need-flows-requires
 flows-requires c κs =
-    let pre = @pre in
-    (pre .0 .laid, omega (arith, pre .0 .laid .words .few-buses, @voltages .kept .1 .1 .0), omega (arith, pre .0 .laid .words .few-buses, pre .0 .laid .words .few-branches))
+    let pre = c .before .before .before .before .before .before .before .before .before .pre in
+    (pre .0 .laid, omega (arith, pre .0 .laid .words .few-buses, c .before .before .before .voltages .kept .1 .1 .0), omega (arith, pre .0 .laid .words .few-buses, pre .0 .laid .words .few-branches))
 
 slice-aggregate-injections : tie.Need-slice-aggregate-injections
 slice-aggregate-injections c = search needs
 
 injections-requires : tie.Need-injections-requires
 injections-requires c κs =
-    let pre = @pre in
-    (pre .0, omega (arith, pre .0 .laid .words .few-buses, @flows .kept .1 .1 .1 .1 .0))
+    let pre = c .before .before .before .before .before .before .before .before .before .before .before .before .pre in
+    (pre .0, omega (arith, pre .0 .laid .words .few-buses, c .before .before .flows .kept .1 .1 .1 .1 .0))
 
 own-objective-requires : tie.Need-own-objective-requires
 own-objective-requires c κs =
-    let pre = @pre in
+    let pre = c .before .before .before .before .before .before .before .before .before .before .before .before .before .before .pre in
     pre .0
 
 slice-aggregate-settle : tie.Need-slice-aggregate-settle
@@ -42,18 +42,18 @@ slice-aggregate-settle c = search needs
 
 settle-requires : tie.Need-settle-requires
 settle-requires c κs =
-    let pre = @pre in
+    let pre = c .before .before .before .before .before .before .before .before .before .before .before .before .before .before .before .before .before .pre in
     let L = pre .0 .laid .words in
-    let A = @voltages .ensures _ (ap (λ z. z .buses) (L .is)) in
-    let I = @injections .ensures in (
+    let A = c .before .before .before .before .before .before .before .before .before .before .before .voltages .ensures _ (ap (λ z. z .buses) (L .is)) in
+    let I = c .before .before .before .before .injections .ensures in (
       pre .0,
       pre .1,
       pre .2,
       record {
-        room = omega (arith, L .few-buses, L .few-branches, @flows .kept .1 .1 .1 .1 .0, @injections .kept .1 .1 .1 .1 .0);
+        room = omega (arith, L .few-buses, L .few-branches, c .before .before .before .before .before .before .before .flows .kept .1 .1 .1 .1 .0, c .before .before .before .before .injections .kept .1 .1 .1 .1 .0);
         injections-are = I .0;
-        flows-are = flows-kept (I .1) (@flows .ensures _ A);
-        own-is = @own-objective .ensures;
+        flows-are = flows-kept (I .1) (c .before .before .before .before .before .before .before .flows .ensures _ A);
+        own-is = c .before .before .own-objective .ensures;
       },
     )
 
@@ -61,7 +61,7 @@ same-length : tie.Need-same-length
 same-length c = search needs
 
 returns : tie.Need-returns
-returns c = @settle .ensures
+returns c = c .before .before .settle .ensures
 
 pub measured-spec : {M : Type 1} → statement M
 measured-spec =
