@@ -21,7 +21,8 @@ use Rattle.acopf.proofs.Finite.{non-finite-clear}
 use Rattle.derived.specs.Outputs.{pInjection, qInjection, flows, pFrom, qFrom, pTo, qTo, outputs}
 use Rattle.derived.proofs.Outputs.{outputs-at}
 use Rattle.residuals.specs.Residuals.{pBalance, qBalance, activeBalance, reactiveBalance, residuals}
-use Rattle.validate.specs.Check.{tiny64, tolerances, solved, faultOutput, faultPoint, faultSwing, faultDerived, faultResidual, faultOf, checkFault}
+use Rattle.validate.specs.Check.{tiny64, tolerances, solved, faultOutput, faultPoint, faultSwing, faultDerived, faultResidual, checkFault}
+use Rattle.validate.proofs.Order.{check-is}
 use Rattle.accepted.specs.Accepted.{Sound, Within}
 use Rattle.accepted.proofs.Accepts.{derived-exactly, zero-within}
 use Rattle.accepted.proofs.Largest.{largest-law}
@@ -36,9 +37,9 @@ above-tiny (fin s m e) n f w = true≢false f
 
 module _ (ws : List ℕ) (xs x : List Float) (solver : Float) (lent : ℕ) (S : Sound ws xs x solver lent) where
   residual-alone : checkFault ws xs x solver lent ≡ faultResidual ws xs x solver (solved ws xs x solver)
-  unfolding checkFault faultOf faultOutput faultPoint faultSwing
+  unfolding faultOutput faultPoint faultSwing
   residual-alone =
-      or-go _ _ (ap (λ f. f .number) (S .network))
+      check-is ws xs x solver lent ∙ or-go _ _ (ap (λ f. f .number) (S .network))
       ∙ or-go _ _ (test _ _ (le-leb _ _ (S .room)))
       ∙ or-go _ _ (or-clear (unless (eqb (length x) (columns ws)) (fault 13 (columns ws))) (firstNonFinite 13 x) (test _ _ (eq-eqb _ _ (S .columns-given))) (non-finite-clear 13 x (omega arith) .1 (S .point-finite)))
       ∙ or-go _ _ (all-clear (buses ws) _ (λ i l. test _ _ (S .angles i l)))
