@@ -5,7 +5,7 @@ use mathlib.Core.List.{List}
 use Prim.Native.Nat.{ℕ, _+_, _*_, _^_, _≤_, _<_}
 use native.Mathlib.Omega.{arith}
 use lib.Dec.{T, lit≤}
-use lib.ListN.{getD}
+use lib.ListN.{length, getD}
 use lib.IntN.{_-ℤ_}
 use lib.Ieee.{Float, nan, inf, fin, binary64, fits, lt, le, eq, ofBits, sub, add, neg}
 use lib.Ieee.Bits.{ofBits-fits}
@@ -193,3 +193,11 @@ module _ (ws : List ℕ) (xs x : List Float) (solver : Float) where
 
     pub rating-obeyed : packed (fault (checked ws xs x solver lent .number) (checked ws xs x solver lent .place)) ≡ 0 → RatingsExact ws xs x tiny64
     rating-obeyed z = rating-exact (obeyed-keeps-exactly ws xs x solver lent D P O z)
+
+  -- of a call: the clauses of the contract of `fervoulk_check`, with r its answer and `before` the output list at entry, and that r is 0
+  pub check-keeps-exactly : (r : ℕ) (before : List Float)
+      → r ≡ packed (fault (checked ws xs x solver (length before) .number) (checked ws xs x solver (length before) .place))
+      → Doubles xs → Doubles x → T (fits binary64 solver) → r ≡ 0 → KeptExactly ws xs x solver tolerances × RatingsExact ws xs x tiny64
+  check-keeps-exactly r before is D P O z =
+      let E = obeyed-keeps-exactly ws xs x solver (length before) D P O (sym is ∙ z) in
+      (E, rating-exact E)

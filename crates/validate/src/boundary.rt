@@ -5,8 +5,11 @@ use base::Fault;
 use factor::network_fault;
 use network::sizes_of;
 ghost use mathlib.Core.Path.{_≡_};
+ghost use lib.Dec.{T};
+ghost use lib.Ieee.{binary64, fits};
 ghost use lib.ListN.{length};
 ghost use Rattle.base.specs.Fault.{fault, packed};
+ghost use Rattle.float.specs.Doubles.{Doubles};
 ghost use Rattle.validate.specs.Check.{outputsNeeded, checked, outputsAfter, residualsFault, reportAfter};
 ghost use Rattle.validate.specs.Verdict.{residualAt};
 
@@ -23,7 +26,8 @@ pub extern "C" fn fervoulk_outputs(words: &[u32], numbers: &[f64]) -> usize
     2 * sizes.buses + 4 * sizes.branches
 }
 
-// The refusal's number times 2 to the power 32 plus its place.
+// The refusal's number times 2 to the power 32 plus its place. What is handed in are doubles, as f64 are: with it, the number 0 says what
+// exact's theorems say of an accepted point.
 #[no_mangle]
 pub extern "C" fn fervoulk_check(
     words: &[u32],
@@ -32,8 +36,10 @@ pub extern "C" fn fervoulk_check(
     solver: f64,
     outputs: &mut [f64],
 ) -> u64
-    ensures { λ r. ⌜ (r ≡ packed (fault (checked (now (words .entry)) (now (numbers .entry)) (now (point .entry)) solver (length (now (outputs .entry))) .number) (checked (now (words .entry)) (now (numbers .entry)) (now (point .entry)) solver (length (now (outputs .entry))) .place)))
-        × (now (outputs .exit) ≡ outputsAfter (now (words .entry)) (now (numbers .entry)) (now (point .entry)) solver (now (outputs .entry))) ⌝ }
+    ensures { λ r. ⌜ (let ws = now (words .entry) in let xs = now (numbers .entry) in let x = now (point .entry) in
+        let before = now (outputs .entry) in let answer = checked ws xs x solver (length before) in
+        (r ≡ packed (fault (answer .number) (answer .place))) × (now (outputs .exit) ≡ outputsAfter ws xs x solver before)
+        × Doubles xs × Doubles x × T (fits binary64 solver)) ⌝ }
 {
     let answer = check(words, numbers, point, solver, outputs);
     base::packed(Fault {
@@ -50,8 +56,9 @@ pub extern "C" fn fervoulk_objective(
     solver: f64,
     outputs: &mut [f64],
 ) -> f64
-    ensures { λ r. ⌜ (r ≡ checked (now (words .entry)) (now (numbers .entry)) (now (point .entry)) solver (length (now (outputs .entry))) .objective)
-        × (now (outputs .exit) ≡ outputsAfter (now (words .entry)) (now (numbers .entry)) (now (point .entry)) solver (now (outputs .entry))) ⌝ }
+    ensures { λ r. ⌜ (let ws = now (words .entry) in let xs = now (numbers .entry) in let x = now (point .entry) in
+        let before = now (outputs .entry) in
+        (r ≡ checked ws xs x solver (length before) .objective) × (now (outputs .exit) ≡ outputsAfter ws xs x solver before)) ⌝ }
 {
     let answer = check(words, numbers, point, solver, outputs);
     answer.objective
@@ -73,8 +80,10 @@ pub extern "C" fn fervoulk_residual(
     outputs: &mut [f64],
     i: usize,
 ) -> f64
-    ensures { λ r. ⌜ (r ≡ residualAt (checked (now (words .entry)) (now (numbers .entry)) (now (point .entry)) solver (length (now (outputs .entry))) .residuals) i)
-        × (now (outputs .exit) ≡ outputsAfter (now (words .entry)) (now (numbers .entry)) (now (point .entry)) solver (now (outputs .entry))) ⌝ }
+    ensures { λ r. ⌜ (let ws = now (words .entry) in let xs = now (numbers .entry) in let x = now (point .entry) in
+        let before = now (outputs .entry) in
+        (r ≡ residualAt (checked ws xs x solver (length before) .residuals) i)
+        × (now (outputs .exit) ≡ outputsAfter ws xs x solver before)) ⌝ }
 {
     let answer = check(words, numbers, point, solver, outputs);
     let residuals = answer.residuals;
@@ -90,8 +99,9 @@ pub extern "C" fn fervoulk_residuals(
     solver: f64,
     report: &mut [f64],
 ) -> u64
-    ensures { λ r. ⌜ (r ≡ packed (residualsFault (now (words .entry)) (now (numbers .entry)) (now (point .entry)) solver (length (now (report .entry)))))
-        × (now (report .exit) ≡ reportAfter (now (words .entry)) (now (numbers .entry)) (now (point .entry)) solver (now (report .entry))) ⌝ }
+    ensures { λ r. ⌜ (let ws = now (words .entry) in let xs = now (numbers .entry) in let x = now (point .entry) in
+        let before = now (report .entry) in
+        (r ≡ packed (residualsFault ws xs x solver (length before))) × (now (report .exit) ≡ reportAfter ws xs x solver before)) ⌝ }
 {
     base::packed(residuals(words, numbers, point, solver, report))
 }

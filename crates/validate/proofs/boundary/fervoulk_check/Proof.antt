@@ -1,3 +1,5 @@
+use mathlib.Core.Path.{sym, subst}
+use lib.Dec.{T}
 use borrow.Author.Needs.{needs}
 use Rattle.validate.proofs.boundary.fervoulk_check.Statement.{statement}
 use Rattle.validate.proofs.boundary.fervoulk_check.Tie as tie
@@ -12,7 +14,14 @@ same-length : tie.Need-same-length
 same-length c = search needs
 
 returns : tie.Need-returns
-returns c = (rw (c .packed .ensures, c .before .before .before .check .ensures .0), c .before .before .before .check .ensures .1)
+returns c =
+    let is = c .before .before .before .check .ensures in (
+      rw (c .packed .ensures, is .0),
+      is .1,
+      c .before .before .before .before .before .before .before .shared-slice-known2 .given,
+      c .before .before .before .before .before .before .shared-slice-known3 .given,
+      subst T (sym (c .before .before .before .before .before .before .before .before .before .good .1 .1 .1 .0 .1)) tt,
+    )
 
 pub fervoulk-check-spec : {M : Type 1} → statement M
 fervoulk-check-spec = tie.close (tie.spec check-requires packed-requires same-length returns)
