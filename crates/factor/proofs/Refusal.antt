@@ -5,17 +5,13 @@ use Prim.Native.Nat.{ℕ}
 use lib.Ieee.{Float}
 use Rattle.base.specs.declared.Fault.{Fault}
 use Rattle.base.specs.Fault.{clear}
-use Rattle.base.proofs.Firsts.{Clear, or-left, or-right, or-go, or-stop}
-use Rattle.network.specs.Fault.{faultWords, faultSize, faultTables}
+use Rattle.base.proofs.Firsts.{Clear, or-go, or-stop}
+use Rattle.network.specs.Fault.{faultTables}
 use Rattle.acopf.specs.Factor.{faultFactor, networkFault}
 use Rattle.acopf.proofs.Order.{network-is, network-proper}
 
 pub tables-clear : (ws : List ℕ) (xs : List Float) {f : Fault} → f ≡ faultTables ws xs → f .number ≡ 0 → Clear (faultTables ws xs)
 tables-clear ws xs e z = ap (λ f. f .number) (sym e) ∙ z
-
-pub form-clear : (ws : List ℕ) (xs : List Float) → Clear (faultTables ws xs) → Clear (faultWords ws) × Clear (faultSize ws)
-unfolding faultTables
-form-clear ws xs h = (or-left _ _ h, or-left _ _ (or-right _ _ h))
 
 pub judged-tables : (ws : List ℕ) (xs : List Float) {f : Fault} → f ≡ faultTables ws xs → (f .number ≡ 0 → ⊥) → f ≡ networkFault ws xs
 judged-tables ws xs e h = e ∙ sym (network-is ws xs ∙ or-stop (faultTables ws xs) (faultFactor ws xs) (λ z. h (ap (λ f. f .number) e ∙ z)))

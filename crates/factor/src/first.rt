@@ -4,8 +4,7 @@ use acopf::Tallies;
 use acopf::tallies_of;
 use base::Fault;
 use network::Layout;
-use network::layout_of;
-use network::tables_fault;
+use network::tables_of;
 ghost use mathlib.Core.Path.{_≡_};
 ghost use Rattle.acopf.specs.Factor.{networkFault};
 ghost use Rattle.factor.specs.Judged.{Judges};
@@ -19,11 +18,12 @@ pub enum Judged {
 pub fn judge(words: &[u32], numbers: &[f64]) -> Judged
     ensures { λ r. ⌜ Judges (now (words .entry)) (now (numbers .entry)) r ⌝ }
 {
-    let tables = tables_fault(words, numbers);
-    if tables.number != 0 {
-        return Judged::Refused(tables);
+    let tables = tables_of(words, numbers);
+    let refusal = tables.fault;
+    if refusal.number != 0 {
+        return Judged::Refused(refusal);
     }
-    let layout = layout_of(words);
+    let layout = tables.layout;
     let tallies = tallies_of(words, numbers, layout);
     let factor = factor_fault(words, numbers, layout, tallies);
     if factor.number != 0 {

@@ -3,9 +3,6 @@ use Rattle.factor.specs.Judged.{Judges}
 use borrow.Author.Needs.{needs}
 use Rattle.factor.proofs.first.network_fault.Statement.{statement}
 use Rattle.factor.proofs.first.network_fault.Tie as tie
-use Rattle.factor.proofs.first.network_fault.Reads as reads
-use Rattle.factor.proofs.first.network_fault.Lts as lts
-use Rattle.factor.proofs.first.judge.Reads as judge-reads
 
 -- src/first.rt:39:9
 judge-requires : tie.Need-judge-requires
