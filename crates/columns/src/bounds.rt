@@ -55,7 +55,7 @@ pub(crate) fn generator_value(
         (cond active (number (now (numbers .entry)) (at + 2 * part)) (neg huge64))
         (cond active (number (now (numbers .entry)) (at + 2 * part + 1)) huge64) ⌝ }
 {
-    let lower = factor::lower_bound(active, numbers[at + 2 * part]);
-    let upper = factor::upper_bound(active, numbers[at + 2 * part + 1]);
+    let lower = acopf::lower_bound(active, numbers[at + 2 * part]);
+    let upper = acopf::upper_bound(active, numbers[at + 2 * part + 1]);
     column_value(list, numbers[at + 7 + part], lower, upper)
 }

@@ -1,10 +1,10 @@
 // The counts of the answer, from the network file, and refusal 12, short. Nothing is written.
 use crate::Compiled;
+use acopf::objective_constants;
 use base::Fault;
 use factor::epigraph_count;
 use factor::network_fault;
 use factor::objective_constant;
-use factor::objective_constants;
 use factor::rated_count;
 use factor::segment_count;
 use network::Sizes;

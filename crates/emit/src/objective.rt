@@ -9,7 +9,7 @@ use crate::word::SUM;
 use crate::word::model_word;
 use crate::writer::Writer;
 use crate::writer::put;
-use factor::counted;
+use acopf::counted;
 use network::Layout;
 use network::first_generator;
 use network::generator_of;

@@ -1,7 +1,7 @@
 // The objective constant and an epigraph's start by the place of a generator's numbers.
-use crate::columns::generator_start;
 use crate::count::is_curved;
 use acopf::curve_value;
+use acopf::generator_start;
 use network::generator_points;
 ghost use mathlib.Core.Path.{_≡_};
 ghost use mathlib.Core.Bool.{cond};

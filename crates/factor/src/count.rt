@@ -1,4 +1,5 @@
 // What compile's counts are made of, counted from the network file.
+use acopf::counted;
 use network::branch_limited;
 use network::generator_points;
 ghost use mathlib.Core.Path.{_≡_};
@@ -39,17 +40,6 @@ pub fn is_rated(w: u32, rating: f64) -> bool
     let limited = branch_limited(w);
     let above = 0.0 < rating;
     limited & above
-}
-
-// One more where the test holds.
-pub fn counted(count: usize, test: bool) -> usize
-    requires { ⌜ count ≤ 0xffff ⌝ }
-    ensures { λ r. ⌜ (r ≡ cond test (suc count) count) × (r ≤ count + 1) ⌝ }
-{
-    if test {
-        return count + 1;
-    }
-    count
 }
 
 // Counts the rated branches of m, whose numbers start at `start`.
@@ -101,16 +91,4 @@ pub fn epigraph_count(words: &[u32], n: usize, k: usize, priced: bool) -> usize
         g += 1;
     }
     count
-}
-
-// The objective's constants: two a generator without a curve, or the one of an empty sum.
-pub fn objective_constants(priced: bool, k: usize, epigraphs: usize) -> usize
-    requires { ⌜ (epigraphs ≤ k) × (k ≤ 256) ⌝ }
-    ensures { λ r. ⌜ (r ≡ cond (priced && not (eqb k 0)) (2 * (k - epigraphs)) 1) × (r ≤ 512) ⌝ }
-{
-    let some = k != 0;
-    if priced & some {
-        return 2 * (k - epigraphs);
-    }
-    1
 }

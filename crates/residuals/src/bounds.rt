@@ -87,8 +87,8 @@ fn generator_bounds(
     let mut cursor = first_generator(words, layout);
     while cursor.index < layout.generators {
         let g = generator_of(words, numbers, layout, cursor);
-        let lower = factor::lower_bound(g.bounded, picked(active, g.p_min, g.q_min));
-        let upper = factor::upper_bound(g.bounded, picked(active, g.p_max, g.q_max));
+        let lower = acopf::lower_bound(g.bounded, picked(active, g.p_min, g.q_min));
+        let upper = acopf::upper_bound(g.bounded, picked(active, g.p_max, g.q_max));
         most = float::maximum(
             most,
             positive_violation(point[from + cursor.index], lower, upper),

@@ -159,7 +159,7 @@ pub(crate) fn epigraphs(words: &[u32], numbers: &[f64], point: &[f64], layout: L
         let column = 2 * n + 2 * k + before;
         let pg = point[2 * n + cursor.index];
         most = epigraph(numbers, point, generator, pg, column, most);
-        before = factor::counted(before, generator.curved);
+        before = acopf::counted(before, generator.curved);
         cursor = next_generator(words, layout, cursor);
     }
     most

@@ -1,7 +1,7 @@
 // The rows' bounds: those of balances and references are 0, those of angle differences are the table's, and every later row is a margin from 0 up.
+use acopf::counted;
 use base::fill;
 use base::put_if;
-use factor::counted;
 use factor::rated_count;
 use factor::segment_count;
 use network::Sizes;

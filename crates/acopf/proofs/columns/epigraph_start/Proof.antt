@@ -1,10 +1,6 @@
 use borrow.Author.Needs.{needs}
 use Rattle.acopf.proofs.columns.epigraph_start.Statement.{statement}
 use Rattle.acopf.proofs.columns.epigraph_start.Tie as tie
-use Rattle.acopf.proofs.columns.epigraph_start.Reads as reads
-use Rattle.acopf.proofs.columns.epigraph_start.Lts as lts
-use Rattle.acopf.proofs.columns.generator_start.Reads as generator-start-reads
-use Rattle.acopf.proofs.curve.curve_value.Reads as curve-value-reads
 
 -- src/columns.rt:50:9
 generator-start-requires : tie.Need-generator-start-requires

@@ -7,10 +7,6 @@ use Rattle.acopf.proofs.Tallied.{tally-none, angles-turn, rated-turn}
 use borrow.Author.Needs.{needs}
 use Rattle.acopf.proofs.tallies.branch_tallies.Statement.{statement}
 use Rattle.acopf.proofs.tallies.branch_tallies.Tie as tie
-use Rattle.acopf.proofs.tallies.branch_tallies.Reads as reads
-use Rattle.acopf.proofs.tallies.branch_tallies.Lts as lts
-use Rattle.acopf.proofs.tallies.counted.Reads as counted-reads
-use Rattle.network.proofs.branch_of.Reads as branch-of-reads
 
 abbrev Inv-loop : tie.InvT-loop
 Inv-loop words numbers layout angles₀ ratings₀ b₀ angles ratings b =

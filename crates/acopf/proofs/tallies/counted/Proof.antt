@@ -3,8 +3,6 @@ use native.Mathlib.Numerals.{add-one}
 use borrow.Author.Needs.{needs}
 use Rattle.acopf.proofs.tallies.counted.Statement.{statement}
 use Rattle.acopf.proofs.tallies.counted.Tie as tie
-use Rattle.acopf.proofs.tallies.counted.Reads as reads
-use Rattle.acopf.proofs.tallies.counted.Lts as lts
 
 -- src/tallies.rt:29:16
 add-result : tie.Need-add-result

@@ -9,13 +9,6 @@ use Rattle.acopf.proofs.Tallied.{epigraphs-none, segments-none, epigrap
 use borrow.Author.Needs.{needs}
 use Rattle.acopf.proofs.tallies.curve_tallies.Statement.{statement}
 use Rattle.acopf.proofs.tallies.curve_tallies.Tie as tie
-use Rattle.acopf.proofs.tallies.curve_tallies.Reads as reads
-use Rattle.acopf.proofs.tallies.curve_tallies.Lts as lts
-use Rattle.acopf.proofs.tallies.counted.Reads as counted-reads
-use Rattle.acopf.proofs.tallies.row_segments.Reads as row-segments-reads
-use Rattle.network.proofs.first_generator.Reads as first-generator-reads
-use Rattle.network.proofs.next_generator.Reads as next-generator-reads
-use Rattle.network.proofs.generator_of.Reads as generator-of-reads
 
 abbrev Inv-loop : tie.InvT-loop
 Inv-loop words numbers layout epigraphs₀ segments₀ cursor₀ epigraphs segments cursor =

@@ -3,8 +3,6 @@ use mathlib.Core.Path.{_≡_}
 use borrow.Author.Needs.{needs}
 use Rattle.acopf.proofs.tallies.row_segments.Statement.{statement}
 use Rattle.acopf.proofs.tallies.row_segments.Tie as tie
-use Rattle.acopf.proofs.tallies.row_segments.Reads as reads
-use Rattle.acopf.proofs.tallies.row_segments.Lts as lts
 
 -- src/tallies.rt:40:20
 sub-result : tie.Need-sub-result

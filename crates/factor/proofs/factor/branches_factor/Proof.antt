@@ -10,11 +10,6 @@ use Rattle.factor.proofs.Steps.{coefficients-proper, coefficients-read}
 use borrow.Author.Needs.{needs}
 use Rattle.factor.proofs.factor.branches_factor.Statement.{statement}
 use Rattle.factor.proofs.factor.branches_factor.Tie as tie
-use Rattle.factor.proofs.factor.branches_factor.Reads as reads
-use Rattle.factor.proofs.factor.branches_factor.Lts as lts
-use Rattle.acopf.proofs.coefficients.Reads as coefficients-reads
-use Rattle.factor.proofs.factor.coefficients_fault.Reads as coefficients-fault-reads
-use Rattle.network.proofs.branch_start.Reads as branch-start-reads
 
 abbrev Inv-loop : tie.InvT-loop
 Inv-loop words numbers layout b₀ b =

@@ -10,13 +10,6 @@ use Rattle.factor.proofs.Steps.{segments-none, segment-fits, curveFacto
 use borrow.Author.Needs.{needs}
 use Rattle.factor.proofs.factor.curves_factor.Statement.{statement}
 use Rattle.factor.proofs.factor.curves_factor.Tie as tie
-use Rattle.factor.proofs.factor.curves_factor.Reads as reads
-use Rattle.factor.proofs.factor.curves_factor.Lts as lts
-use Rattle.acopf.proofs.row_segments.Reads as row-segments-reads
-use Rattle.factor.proofs.factor.curve_fault.Reads as curve-fault-reads
-use Rattle.network.proofs.first_generator.Reads as first-generator-reads
-use Rattle.network.proofs.next_generator.Reads as next-generator-reads
-use Rattle.network.proofs.generator_of.Reads as generator-of-reads
 
 abbrev Inv-loop : tie.InvT-loop
 Inv-loop words numbers layout start place₀ cursor₀ place cursor =

@@ -7,11 +7,6 @@ use Rattle.factor.proofs.Chain.{place-is, count-is, later-at}
 use borrow.Author.Needs.{needs}
 use Rattle.factor.proofs.factor.curves_on.Statement.{statement}
 use Rattle.factor.proofs.factor.curves_on.Tie as tie
-use Rattle.factor.proofs.factor.curves_on.Reads as reads
-use Rattle.factor.proofs.factor.curves_on.Lts as lts
-use Rattle.acopf.proofs.objective_constants.Reads as objective-constants-reads
-use Rattle.factor.proofs.factor.curves_factor.Reads as curves-factor-reads
-use Rattle.factor.proofs.factor.later_factor.Reads as later-factor-reads
 
 -- src/factor.rt:191:17
 mul-start : tie.Need-mul-start

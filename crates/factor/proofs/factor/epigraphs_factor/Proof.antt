@@ -11,14 +11,6 @@ use Rattle.factor.proofs.Steps.{epigraphs-none, epigraphs-le, epigraphF
 use borrow.Author.Needs.{needs}
 use Rattle.factor.proofs.factor.epigraphs_factor.Statement.{statement}
 use Rattle.factor.proofs.factor.epigraphs_factor.Tie as tie
-use Rattle.factor.proofs.factor.epigraphs_factor.Reads as reads
-use Rattle.factor.proofs.factor.epigraphs_factor.Lts as lts
-use Rattle.acopf.proofs.epigraph_start.Reads as epigraph-start-reads
-use Rattle.acopf.proofs.counted.Reads as counted-reads
-use Rattle.factor.proofs.factor.epigraph_fault.Reads as epigraph-fault-reads
-use Rattle.network.proofs.first_generator.Reads as first-generator-reads
-use Rattle.network.proofs.next_generator.Reads as next-generator-reads
-use Rattle.network.proofs.generator_of.Reads as generator-of-reads
 
 abbrev Inv-loop : tie.InvT-loop
 Inv-loop words numbers layout start place₀ cursor₀ place cursor =

@@ -4,10 +4,6 @@ use Rattle.factor.proofs.Factors.{factor-is}
 use borrow.Author.Needs.{needs}
 use Rattle.factor.proofs.factor.factor_fault.Statement.{statement}
 use Rattle.factor.proofs.factor.factor_fault.Tie as tie
-use Rattle.factor.proofs.factor.factor_fault.Reads as reads
-use Rattle.factor.proofs.factor.factor_fault.Lts as lts
-use Rattle.factor.proofs.factor.branches_factor.Reads as branches-factor-reads
-use Rattle.factor.proofs.factor.curves_on.Reads as curves-on-reads
 
 -- src/factor.rt:205:9
 branches-factor-requires : tie.Need-branches-factor-requires

@@ -3,11 +3,6 @@ use Rattle.base.specs.Fault.{unless, orElse}
 use borrow.Author.Needs.{needs}
 use Rattle.factor.proofs.factor.later_factor.Statement.{statement}
 use Rattle.factor.proofs.factor.later_factor.Tie as tie
-use Rattle.factor.proofs.factor.later_factor.Reads as reads
-use Rattle.factor.proofs.factor.later_factor.Lts as lts
-use Rattle.acopf.proofs.objective_constant.Reads as objective-constant-reads
-use Rattle.factor.proofs.factor.epigraphs_factor.Reads as epigraphs-factor-reads
-use Rattle.float.proofs.is_finite.Reads as is-finite-reads
 
 -- src/factor.rt:177:26
 objective-constant-requires : tie.Need-objective-constant-requires
