@@ -6,6 +6,7 @@ use lib.ListN.{length, getD}
 use lib.Ieee.{Float, nan, binary64, ofBits}
 use Rattle.base.specs.declared.Fault.{Fault}
 use Rattle.base.specs.Fault.{fault, unless, first, Section, section, firstOf}
+use Rattle.base.specs.Refusal.{FACTOR}
 use Rattle.float.specs.Number.{isFinite}
 use Rattle.nl.specs.File.{modelConstants}
 use Rattle.network.specs.Fault.{tableSections}
@@ -23,11 +24,11 @@ module _ (ws : List ℕ) (xs : List Float) where
 
   -- 11 factor
   unfoldable pub faultFactor : Fault
-  faultFactor = firstNonFinite 11 (constants64 ++ (objectiveConstant ws xs ∷ columnStart ws xs))
+  faultFactor = firstNonFinite FACTOR (constants64 ++ (objectiveConstant ws xs ∷ columnStart ws xs))
 
   -- "Order is by number, except that 8, 9, 10 are taken branch by branch"
   abbrev pub networkSections : List Section
-  networkSections = tableSections ws xs ++ (section (11 ∷ []) faultFactor ∷ [])
+  networkSections = tableSections ws xs ++ (section (FACTOR ∷ []) faultFactor ∷ [])
 
   unfoldable pub networkFault : Fault
   networkFault = firstOf networkSections

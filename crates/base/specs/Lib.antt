@@ -1,5 +1,6 @@
 pub mod Loop
 pub mod Word
 pub mod Fault
+pub mod Refusal
 pub mod Section
 pub mod Order

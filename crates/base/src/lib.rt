@@ -1,4 +1,5 @@
 // What the network file, the model file and the refusals share: a word's two parts, and the answer type of every refusal.
+pub mod refusal;
 mod section;
 
 pub use section::fill;

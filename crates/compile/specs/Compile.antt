@@ -7,6 +7,7 @@ use lib.Dec.{eqb, leb}
 use lib.Ieee.{Float}
 use Rattle.base.specs.declared.Fault.{Fault}
 use Rattle.base.specs.Fault.{fault, unless, first, Section, section, firstOf, left}
+use Rattle.base.specs.Refusal.{SHORT}
 use Rattle.float.specs.Number.{zero64}
 use Rattle.network.specs.Network.{columns}
 use Rattle.acopf.specs.Columns.{columnLower, columnUpper, columnStart}
@@ -31,11 +32,11 @@ module _ (ws : List ℕ) (xs : List Float) where
   unfoldable pub faultShort : List ℕ → Fault
   faultShort lent =
       let needs = lengths in
-      first 7 (λ i. unless (leb (getD needs i 0) (getD lent i 0)) (fault 12 (i + 1)))
+      first 7 (λ i. unless (leb (getD needs i 0) (getD lent i 0)) (fault SHORT (i + 1)))
 
   -- "Compile uses 1-12"
   abbrev pub compileSections : List ℕ → List Section
-  compileSections lent = networkSections ws xs ++ (section (12 ∷ []) (faultShort lent) ∷ [])
+  compileSections lent = networkSections ws xs ++ (section (SHORT ∷ []) (faultShort lent) ∷ [])
 
   unfoldable pub compileFault : List ℕ → Fault
   compileFault lent = firstOf (compileSections lent)

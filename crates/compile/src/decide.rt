@@ -2,6 +2,7 @@
 use crate::Compiled;
 use acopf::objective_constants;
 use base::Fault;
+use base::refusal;
 use factor::epigraph_count;
 use factor::network_fault;
 use factor::objective_constant;
@@ -18,6 +19,7 @@ ghost use lib.Dec.{eqb, leb, ltb};
 ghost use lib.ListN.{length, getD};
 ghost use Rattle.base.proofs.Loops.{bit};
 ghost use Rattle.base.specs.Fault.{fault, unless, first};
+ghost use Rattle.base.specs.Refusal.{SHORT};
 ghost use Rattle.network.specs.Fault.{faultTables};
 ghost use Rattle.network.specs.Network.{buses, generators, branches, references, costs};
 ghost use Rattle.compile.specs.Compile.{refused, accepted, sized, compiled};
@@ -180,22 +182,19 @@ pub fn sized(words: &[u32], numbers: &[f64]) -> Compiled
 // 12: the first list that is shorter than what it needs.
 fn short_fault(needs: [usize; 7], lent: [usize; 7]) -> Fault
     requires { ⌜ (7 ≤ length needs) × (7 ≤ length lent) ⌝ }
-    ensures { λ r. ⌜ r ≡ first 7 (λ i. unless (leb (getD needs i 0) (getD lent i 0)) (fault 12 (i + 1))) ⌝ }
+    ensures { λ r. ⌜ r ≡ first 7 (λ i. unless (leb (getD needs i 0) (getD lent i 0)) (fault SHORT (i + 1))) ⌝ }
 {
     let mut i = 0usize;
     while i < 7 {
         if lent[i] < needs[i] {
             return Fault {
-                number: 12,
+                number: refusal::SHORT,
                 place: i + 1,
             };
         }
         i += 1;
     }
-    Fault {
-        number: 0,
-        place: 0,
-    }
+    refusal::CLEAR
 }
 
 // Every refusal is decided here, before anything is written.

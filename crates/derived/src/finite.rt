@@ -1,9 +1,11 @@
 // Refusal 15, derived: the first output that is not finite, then the solver's objective, then the check's own.
 use base::Fault;
+use base::refusal;
 ghost use mathlib.Core.Path.{_≡_};
 ghost use mathlib.Core.List.{[], _∷_, _++_};
 ghost use Prim.Native.Nat.{_+_, _<_, _≤_};
 ghost use lib.ListN.{length, take};
+ghost use Rattle.base.specs.Refusal.{DERIVED};
 ghost use Rattle.acopf.specs.Factor.{firstNonFinite};
 ghost use Rattle.derived.specs.Scratch.{mostOutputs, nonFiniteFrom};
 
@@ -22,20 +24,17 @@ pub fn first_non_finite(list: &[f64], count: usize, number: u32, from: usize) ->
         }
         i += 1;
     }
-    Fault {
-        number: 0,
-        place: 0,
-    }
+    refusal::CLEAR
 }
 
 // 15 of the outputs, the list's first `count` numbers, then of the two objectives.
 pub fn derived_fault(list: &[f64], count: usize, solver: f64, own: f64) -> Fault
     requires { ⌜ (count ≤ length (now list)) × (count ≤ mostOutputs) ⌝ }
-    ensures { λ r. ⌜ r ≡ firstNonFinite 15 (take count (now (list .entry)) ++ (solver ∷ own ∷ [])) ⌝ }
+    ensures { λ r. ⌜ r ≡ firstNonFinite DERIVED (take count (now (list .entry)) ++ (solver ∷ own ∷ [])) ⌝ }
 {
-    let output = first_non_finite(list, count, 15, 0);
+    let output = first_non_finite(list, count, refusal::DERIVED, 0);
     if output.number != 0 {
         return output;
     }
-    first_non_finite(&[solver, own], 2, 15, count)
+    first_non_finite(&[solver, own], 2, refusal::DERIVED, count)
 }

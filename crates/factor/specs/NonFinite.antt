@@ -8,6 +8,7 @@ use lib.Ieee.{Float, nan}
 use Rattle.base.specs.declared.Fault.{Fault}
 use Rattle.base.specs.Fault.{fault, unless, orElse, first}
 use Rattle.base.specs.Loop.{tally}
+use Rattle.base.specs.Refusal.{FACTOR}
 use Rattle.float.specs.Number.{isFinite}
 use Rattle.network.specs.Network.{buses, branches, generators, curved, curveAt, rated, epigraphColumn}
 use Rattle.acopf.specs.Columns.{epigraphStart}
@@ -19,7 +20,7 @@ pub use Rattle.acopf.specs.Tallies.{rowSegments}
 unfoldable pub use Rattle.acopf.specs.Tallies.{segmentsBefore}
 
 abbrev pub nonFinite : Float → ℕ → Fault
-nonFinite x place = unless (isFinite x) (fault 11 place)
+nonFinite x place = unless (isFinite x) (fault FACTOR place)
 
 -- a branch's twelve coefficients
 unfoldable pub coefficientsFault : List Float → ℕ → Fault
@@ -37,7 +38,7 @@ module _ (ws : List ℕ) (xs : List Float) where
   curvesFactor place = first (generators ws) (λ g. curveFault xs (curveAt ws g) (rowSegments ws g) (place + 2 * segmentsBefore ws g))
 
   unfoldable pub epigraphsFactor : ℕ → Fault
-  epigraphsFactor place = first (generators ws) (λ g. unless (not (curved ws g) || isFinite (epigraphStart ws xs g)) (fault 11 (place + epigraphColumn ws g)))
+  epigraphsFactor place = first (generators ws) (λ g. unless (not (curved ws g) || isFinite (epigraphStart ws xs g)) (fault FACTOR (place + epigraphColumn ws g)))
 
   -- what follows the branches' coefficients: the curves' constants, the objective constant, the epigraphs' starts
   abbrev pub curvesOn : Fault

@@ -10,6 +10,7 @@ use acopf::objective_constants;
 use acopf::row_segments;
 use acopf::slope_of;
 use base::Fault;
+use base::refusal;
 use network::Layout;
 use network::branch_start;
 use network::first_generator;
@@ -20,6 +21,7 @@ ghost use mathlib.Core.Bool.{not, _||_};
 ghost use Prim.Native.Nat.{ℕ, _+_, _*_, _≤_, _<_};
 ghost use lib.ListN.{length};
 ghost use Rattle.base.specs.Fault.{fault, unless, orElse};
+ghost use Rattle.base.specs.Refusal.{FACTOR};
 ghost use Rattle.float.specs.Number.{isFinite};
 ghost use Rattle.network.specs.Fault.{faultTables};
 ghost use Rattle.network.specs.Layout.{Laid};
@@ -38,16 +40,13 @@ fn coefficients_fault(cs: [f64; 12], place: usize) -> Fault
     while c < 12 {
         if !float::is_finite(cs[c]) {
             return Fault {
-                number: 11,
+                number: refusal::FACTOR,
                 place: place + c,
             };
         }
         c += 1;
     }
-    Fault {
-        number: 0,
-        place: 0,
-    }
+    refusal::CLEAR
 }
 
 // Those of all branches.
@@ -64,10 +63,7 @@ fn branches_factor(words: &[u32], numbers: &[f64], layout: Layout) -> Fault
         }
         b += 1;
     }
-    Fault {
-        number: 0,
-        place: 0,
-    }
+    refusal::CLEAR
 }
 
 // A segment's slope and intercept.
@@ -76,18 +72,18 @@ fn segment_fault(numbers: &[f64], at: usize, segment: usize, place: usize) -> Fa
     ensures { λ r. ⌜ r ≡ orElse (nonFinite (slope (now (numbers .entry)) at segment) place) (nonFinite (intercept (now (numbers .entry)) at segment) (place + 1)) ⌝ }
 {
     if !float::is_finite(slope_of(numbers, at, segment)) {
-        return Fault { number: 11, place };
+        return Fault {
+            number: refusal::FACTOR,
+            place,
+        };
     }
     if !float::is_finite(intercept_of(numbers, at, segment)) {
         return Fault {
-            number: 11,
+            number: refusal::FACTOR,
             place: place + 1,
         };
     }
-    Fault {
-        number: 0,
-        place: 0,
-    }
+    refusal::CLEAR
 }
 
 // A curve's first `count` segments.
@@ -103,10 +99,7 @@ fn curve_fault(numbers: &[f64], at: usize, count: usize, place: usize) -> Fault
         }
         s += 1;
     }
-    Fault {
-        number: 0,
-        place: 0,
-    }
+    refusal::CLEAR
 }
 
 // The curves of all generators; the first slope has the place `start`.
@@ -126,23 +119,20 @@ fn curves_factor(words: &[u32], numbers: &[f64], layout: Layout, start: usize) -
         place += 2 * count;
         cursor = next_generator(words, layout, cursor);
     }
-    Fault {
-        number: 0,
-        place: 0,
-    }
+    refusal::CLEAR
 }
 
 fn epigraph_fault(curved: bool, start: f64, place: usize) -> Fault
-    ensures { λ r. ⌜ r ≡ unless (not curved || isFinite start) (fault 11 place) ⌝ }
+    ensures { λ r. ⌜ r ≡ unless (not curved || isFinite start) (fault FACTOR place) ⌝ }
 {
     let finite = float::is_finite(start);
     if !curved | finite {
-        return Fault {
-            number: 0,
-            place: 0,
-        };
+        return refusal::CLEAR;
     }
-    Fault { number: 11, place }
+    Fault {
+        number: refusal::FACTOR,
+        place,
+    }
 }
 
 // The epigraph starts of all generators, where the first column's start has the place `start`.
@@ -162,10 +152,7 @@ fn epigraphs_factor(words: &[u32], numbers: &[f64], layout: Layout, start: usize
         place = counted(place, generator.curved);
         cursor = next_generator(words, layout, cursor);
     }
-    Fault {
-        number: 0,
-        place: 0,
-    }
+    refusal::CLEAR
 }
 
 // The objective constant, whose place is the number of constants, then the starts.
@@ -176,7 +163,7 @@ fn later_factor(words: &[u32], numbers: &[f64], layout: Layout, count: usize) ->
 {
     if !float::is_finite(objective_constant(words, numbers, layout)) {
         return Fault {
-            number: 11,
+            number: refusal::FACTOR,
             place: count,
         };
     }

@@ -3,6 +3,7 @@ use crate::factor::factor_fault;
 use acopf::Tallies;
 use acopf::tallies_of;
 use base::Fault;
+use base::refusal;
 use network::Layout;
 use network::tables_of;
 ghost use mathlib.Core.Path.{_≡_};
@@ -39,9 +40,6 @@ pub fn network_fault(words: &[u32], numbers: &[f64]) -> Fault
     let judged = judge(words, numbers);
     match judged {
         Judged::Refused(fault) => fault,
-        Judged::Sound(_, _) => Fault {
-            number: 0,
-            place: 0,
-        },
+        Judged::Sound(_, _) => refusal::CLEAR,
     }
 }

@@ -8,6 +8,7 @@ use lib.Ieee.{Float, lt}
 use Rattle.base.specs.Word.{kindOf}
 use Rattle.base.specs.declared.Fault.{Fault}
 use Rattle.base.specs.Fault.{fault, unless, orElse, first, Section, section, firstOf}
+use Rattle.base.specs.Refusal.{WORDS, SIZE, COUNT, BLANK, CURVE, SHIFT, BOUNDS, SPREAD, RATING, SQUARE}
 use Rattle.float.specs.Number.{_⊗_, zero64, isFinite}
 use Rattle.network.specs.Limits.{mostBuses, mostGenerators, mostBranches, mostReferences, mostPoints}
 use Rattle.network.specs.Word.{loadRight}
@@ -24,21 +25,21 @@ module _ (ws : List ℕ) where
 
   -- 1 words: the first wrong word, 0 for an empty list
   unfoldable pub faultWords : Fault
-  faultWords = cond (eqb (length ws) 0) (fault 1 0) (first (length ws) (λ i. unless (wordRight i) (fault 1 i)))
+  faultWords = cond (eqb (length ws) 0) (fault WORDS 0) (first (length ws) (λ i. unless (wordRight i) (fault WORDS i)))
 
   -- 2 size: 1-256 buses, 256 generators, 512 branches, 256 references, 16 points a curve; the word passing the limit
   unfoldable pub faultSize : Fault
   faultSize =
-      orElse (unless (leb 1 (buses ws)) (fault 2 0))
-      (orElse (unless (leb (buses ws) mostBuses) (fault 2 (busPlace ws mostBuses)))
-      (orElse (unless (leb (generators ws) mostGenerators) (fault 2 (generatorPlace ws mostGenerators)))
-      (orElse (unless (leb (branches ws) mostBranches) (fault 2 (branchPlace ws mostBranches)))
-      (orElse (unless (leb (references ws) mostReferences) (fault 2 (referencePlace ws mostReferences)))
-      (first (generators ws) (λ g. unless (leb (points ws g) mostPoints) (fault 2 (generatorPlace ws g))))))))
+      orElse (unless (leb 1 (buses ws)) (fault SIZE 0))
+      (orElse (unless (leb (buses ws) mostBuses) (fault SIZE (busPlace ws mostBuses)))
+      (orElse (unless (leb (generators ws) mostGenerators) (fault SIZE (generatorPlace ws mostGenerators)))
+      (orElse (unless (leb (branches ws) mostBranches) (fault SIZE (branchPlace ws mostBranches)))
+      (orElse (unless (leb (references ws) mostReferences) (fault SIZE (referencePlace ws mostReferences)))
+      (first (generators ws) (λ g. unless (leb (points ws g) mostPoints) (fault SIZE (generatorPlace ws g))))))))
 
   -- 3 count: the needed length, of a list of `count` numbers
   abbrev pub countFault : ℕ → Fault
-  countFault count = unless (eqb count (needed ws)) (fault 3 (needed ws))
+  countFault count = unless (eqb count (needed ws)) (fault COUNT (needed ws))
 
   -- the first of 1 and 2, from the words alone; the first of 1 to 3, from the words and the number of numbers
   unfoldable pub wordsFault : Fault
@@ -49,7 +50,7 @@ module _ (ws : List ℕ) where
 
 -- 4 blank: `count` numbers from `at` on are required
 unfoldable pub blanks : List Float → ℕ → ℕ → Fault
-blanks xs at count = first count (λ j. unless (isFinite (number xs (at + j))) (fault 4 (at + j)))
+blanks xs at count = first count (λ j. unless (isFinite (number xs (at + j))) (fault BLANK (at + j)))
 
 module _ (ws : List ℕ) (xs : List Float) where
   -- 3 count: the needed length
@@ -67,32 +68,32 @@ module _ (ws : List ℕ) (xs : List Float) where
   unfoldable pub faultCurve : Fault
   faultCurve =
       first (generators ws) (λ g. first (segments ws g) (λ s.
-      unless (lt (power xs (curveAt ws g) s) (power xs (curveAt ws g) (s + 1))) (fault 5 (curveAt ws g + 2 * (s + 1)))))
+      unless (lt (power xs (curveAt ws g) s) (power xs (curveAt ws g) (s + 1))) (fault CURVE (curveAt ws g + 2 * (s + 1)))))
 
   -- 6 shift
   unfoldable pub faultShift : Fault
-  faultShift = first (branches ws) (λ b. unless (angleRight (shift ws xs b)) (fault 6 (branchAt ws b + 7)))
+  faultShift = first (branches ws) (λ b. unless (angleRight (shift ws xs b)) (fault SHIFT (branchAt ws b + 7)))
 
   -- 7 bounds: buses, then pg, qg by generator; the column
   unfoldable pub faultBounds : Fault
   faultBounds =
-      orElse (first (buses ws) (λ i. unless (not (vmBounded ws i) || boundsRight (vmMin ws xs i) (vmMax ws xs i)) (fault 7 (vmColumn ws i))))
+      orElse (first (buses ws) (λ i. unless (not (vmBounded ws i) || boundsRight (vmMin ws xs i) (vmMax ws xs i)) (fault BOUNDS (vmColumn ws i))))
       (first (generators ws) (λ g.
-      orElse (unless (not (capable ws g) || boundsRight (pMin ws xs g) (pMax ws xs g)) (fault 7 (pgColumn ws g)))
-      (unless (not (capable ws g) || boundsRight (qMin ws xs g) (qMax ws xs g)) (fault 7 (qgColumn ws g)))))
+      orElse (unless (not (capable ws g) || boundsRight (pMin ws xs g) (pMax ws xs g)) (fault BOUNDS (pgColumn ws g)))
+      (unless (not (capable ws g) || boundsRight (qMin ws xs g) (qMax ws xs g)) (fault BOUNDS (qgColumn ws g)))))
 
   -- 8 spread, 9 rating, 10 square, each of branch b
   unfoldable pub faultSpread : ℕ → Fault
-  faultSpread b = unless (not (angled ws b) || boundsRight (angleMin ws xs b) (angleMax ws xs b)) (fault 8 b)
+  faultSpread b = unless (not (angled ws b) || boundsRight (angleMin ws xs b) (angleMax ws xs b)) (fault SPREAD b)
 
   unfoldable pub faultRating : ℕ → Fault
-  faultRating b = unless (not (limited ws b) || boundsRight zero64 (sMax ws xs b)) (fault 9 b)
+  faultRating b = unless (not (limited ws b) || boundsRight zero64 (sMax ws xs b)) (fault RATING b)
 
   unfoldable pub faultSquare : ℕ → Fault
-  faultSquare b = unless (not (limited ws b) || isFinite (sMax ws xs b ⊗ sMax ws xs b)) (fault 10 b)
+  faultSquare b = unless (not (limited ws b) || isFinite (sMax ws xs b ⊗ sMax ws xs b)) (fault SQUARE b)
 
   abbrev pub branchSections : ℕ → List Section
-  branchSections b = section (8 ∷ []) (faultSpread b) ∷ section (9 ∷ []) (faultRating b) ∷ section (10 ∷ []) (faultSquare b) ∷ []
+  branchSections b = section (SPREAD ∷ []) (faultSpread b) ∷ section (RATING ∷ []) (faultRating b) ∷ section (SQUARE ∷ []) (faultSquare b) ∷ []
 
   unfoldable pub branchFault : ℕ → Fault
   branchFault b = firstOf (branchSections b)
@@ -104,9 +105,9 @@ module _ (ws : List ℕ) (xs : List Float) where
   -- 1 to 10 in their order
   abbrev pub tableSections : List Section
   tableSections =
-      section (1 ∷ []) (faultWords ws) ∷ section (2 ∷ []) (faultSize ws) ∷ section (3 ∷ []) faultCount
-      ∷ section (4 ∷ []) faultBlank ∷ section (5 ∷ []) faultCurve ∷ section (6 ∷ []) faultShift ∷ section (7 ∷ []) faultBounds
-      ∷ section (8 ∷ 9 ∷ 10 ∷ []) faultBranches ∷ []
+      section (WORDS ∷ []) (faultWords ws) ∷ section (SIZE ∷ []) (faultSize ws) ∷ section (COUNT ∷ []) faultCount
+      ∷ section (BLANK ∷ []) faultBlank ∷ section (CURVE ∷ []) faultCurve ∷ section (SHIFT ∷ []) faultShift ∷ section (BOUNDS ∷ []) faultBounds
+      ∷ section (SPREAD ∷ RATING ∷ SQUARE ∷ []) faultBranches ∷ []
 
   -- the first of them
   unfoldable pub faultTables : Fault

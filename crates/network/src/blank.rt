@@ -8,6 +8,7 @@ use crate::layout::first_generator;
 use crate::layout::next_generator;
 use crate::records::generator_of;
 use base::Fault;
+use base::refusal;
 ghost use mathlib.Core.Path.{_≡_};
 ghost use Prim.Native.Nat.{_+_, _*_, _<_, _≤_};
 ghost use lib.ListN.{length};
@@ -26,16 +27,13 @@ fn blanks(numbers: &[f64], at: usize, count: usize) -> Fault
     while j < count {
         if !float::is_finite(numbers[at + j]) {
             return Fault {
-                number: 4,
+                number: refusal::BLANK,
                 place: at + j,
             };
         }
         j += 1;
     }
-    Fault {
-        number: 0,
-        place: 0,
-    }
+    refusal::CLEAR
 }
 
 // p_d, q_d, g_s and b_s of each bus.
@@ -51,10 +49,7 @@ fn blank_buses(words: &[u32], numbers: &[f64], layout: Layout) -> Fault
         }
         i += 1;
     }
-    Fault {
-        number: 0,
-        place: 0,
-    }
+    refusal::CLEAR
 }
 
 // q, c, c0 and the curve of the generator at the cursor.
@@ -85,10 +80,7 @@ fn blank_generators(words: &[u32], numbers: &[f64], layout: Layout) -> Fault
         }
         cursor = next_generator(words, layout, cursor);
     }
-    Fault {
-        number: 0,
-        place: 0,
-    }
+    refusal::CLEAR
 }
 
 // g to shift of each branch.
@@ -104,10 +96,7 @@ fn blank_branches(words: &[u32], numbers: &[f64], layout: Layout) -> Fault
         }
         b += 1;
     }
-    Fault {
-        number: 0,
-        place: 0,
-    }
+    refusal::CLEAR
 }
 
 pub(crate) fn blank_fault(words: &[u32], numbers: &[f64], layout: Layout) -> Fault

@@ -4,9 +4,11 @@ use crate::layout::Layout;
 use crate::records::Branch;
 use crate::records::branch_of;
 use base::Fault;
+use base::refusal;
 ghost use mathlib.Core.Path.{_≡_};
 ghost use mathlib.Core.Bool.{not, _||_};
 ghost use Rattle.base.specs.Fault.{fault, unless, orElse};
+ghost use Rattle.base.specs.Refusal.{SPREAD, RATING, SQUARE};
 ghost use Rattle.float.specs.Number.{_⊗_, zero64, isFinite};
 ghost use Rattle.network.specs.Bounds.{boundsRight};
 ghost use Rattle.network.specs.Fault.{faultBranches};
@@ -14,34 +16,31 @@ ghost use Rattle.network.specs.Layout.{Laid};
 
 // A branch that is number b.
 fn branch_fault(branch: Branch, b: usize) -> Fault
-    ensures { λ r. ⌜ r ≡ orElse (unless (not (branch .angled) || boundsRight (branch .«angle_min») (branch .«angle_max»)) (fault 8 b))
-        (orElse (unless (not (branch .limited) || boundsRight zero64 (branch .«s_max»)) (fault 9 b))
-        (unless (not (branch .limited) || isFinite (branch .«s_max» ⊗ branch .«s_max»)) (fault 10 b))) ⌝ }
+    ensures { λ r. ⌜ r ≡ orElse (unless (not (branch .angled) || boundsRight (branch .«angle_min») (branch .«angle_max»)) (fault SPREAD b))
+        (orElse (unless (not (branch .limited) || boundsRight zero64 (branch .«s_max»)) (fault RATING b))
+        (unless (not (branch .limited) || isFinite (branch .«s_max» ⊗ branch .«s_max»)) (fault SQUARE b))) ⌝ }
 {
     if !validate_active(branch.angled, branch.angle_min, branch.angle_max) {
         return Fault {
-            number: 8,
+            number: refusal::SPREAD,
             place: b,
         };
     }
     let s_max = branch.s_max;
     if !validate_active(branch.limited, 0.0, s_max) {
         return Fault {
-            number: 9,
+            number: refusal::RATING,
             place: b,
         };
     }
     let square = float::is_finite(s_max * s_max);
     if !(!branch.limited | square) {
         return Fault {
-            number: 10,
+            number: refusal::SQUARE,
             place: b,
         };
     }
-    Fault {
-        number: 0,
-        place: 0,
-    }
+    refusal::CLEAR
 }
 
 pub(crate) fn branches_fault(words: &[u32], numbers: &[f64], layout: Layout) -> Fault
@@ -56,8 +55,5 @@ pub(crate) fn branches_fault(words: &[u32], numbers: &[f64], layout: Layout) -> 
         }
         b += 1;
     }
-    Fault {
-        number: 0,
-        place: 0,
-    }
+    refusal::CLEAR
 }

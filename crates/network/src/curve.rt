@@ -5,11 +5,13 @@ use crate::layout::first_generator;
 use crate::layout::next_generator;
 use crate::records::generator_of;
 use base::Fault;
+use base::refusal;
 ghost use mathlib.Core.Path.{_≡_};
 ghost use Prim.Native.Nat.{_+_, _-_, _*_, _≤_};
 ghost use lib.Ieee.{lt};
 ghost use lib.ListN.{length};
 ghost use Rattle.base.specs.Fault.{fault, unless, first};
+ghost use Rattle.base.specs.Refusal.{CURVE};
 ghost use Rattle.network.specs.Limits.{pointNumbers};
 ghost use Rattle.network.specs.Network.{power};
 ghost use Rattle.network.specs.Fault.{faultCurve};
@@ -19,23 +21,20 @@ ghost use Rattle.network.specs.Layout.{Laid};
 fn curve_at(numbers: &[f64], at: usize, points: usize) -> Fault
     requires { ⌜ at + pointNumbers * points ≤ length (now numbers) ⌝ }
     ensures { λ r. ⌜ r ≡ first (points - 1) (λ s. unless (lt (power (now (numbers .entry)) at s) (power (now (numbers .entry)) at (s + 1)))
-        (fault 5 (at + pointNumbers * (s + 1)))) ⌝ }
+        (fault CURVE (at + pointNumbers * (s + 1)))) ⌝ }
 {
     let mut s = 0usize;
     while s + 1 < points {
         let above = numbers[at + POINT_NUMBERS * s] < numbers[at + POINT_NUMBERS * (s + 1)];
         if !above {
             return Fault {
-                number: 5,
+                number: refusal::CURVE,
                 place: at + POINT_NUMBERS * (s + 1),
             };
         }
         s += 1;
     }
-    Fault {
-        number: 0,
-        place: 0,
-    }
+    refusal::CLEAR
 }
 
 pub(crate) fn curve_fault(words: &[u32], numbers: &[f64], layout: Layout) -> Fault
@@ -51,8 +50,5 @@ pub(crate) fn curve_fault(words: &[u32], numbers: &[f64], layout: Layout) -> Fau
         }
         cursor = next_generator(words, layout, cursor);
     }
-    Fault {
-        number: 0,
-        place: 0,
-    }
+    refusal::CLEAR
 }

@@ -8,11 +8,13 @@ use crate::layout::MOST_REFERENCES;
 use crate::layout::numbers_needed;
 use crate::word::generator_points;
 use base::Fault;
+use base::refusal;
 ghost use mathlib.Core.Path.{_≡_};
 ghost use Prim.Native.Nat.{_+_, _≤_};
 ghost use lib.Dec.{leb};
 ghost use lib.ListN.{length};
 ghost use Rattle.base.specs.Fault.{fault, unless, first};
+ghost use Rattle.base.specs.Refusal.{SIZE};
 ghost use Rattle.network.specs.Limits.{mostPoints};
 ghost use Rattle.network.specs.Network.{buses, generators, branches, references, generatorPlace, points};
 ghost use Rattle.network.specs.Fault.{faultWords, faultSize, countFault};
@@ -22,22 +24,19 @@ ghost use Rattle.network.specs.Layout.{LaidWords};
 fn points_fault(words: &[u32], n: usize, k: usize) -> Fault
     requires { ⌜ (n ≡ buses (now words)) × (1 + n + k ≤ length (now words)) ⌝ }
     ensures { λ r. ⌜ r ≡ first k (λ g. unless (leb (points (now (words .entry)) g) mostPoints)
-        (fault 2 (generatorPlace (now (words .entry)) g))) ⌝ }
+        (fault SIZE (generatorPlace (now (words .entry)) g))) ⌝ }
 {
     let mut g = 0usize;
     while g < k {
         if generator_points(words[1 + n + g]) > MOST_POINTS {
             return Fault {
-                number: 2,
+                number: refusal::SIZE,
                 place: 1 + n + g,
             };
         }
         g += 1;
     }
-    Fault {
-        number: 0,
-        place: 0,
-    }
+    refusal::CLEAR
 }
 
 // n, k, m and r are the counts of buses, generators, branches and references.
@@ -48,31 +47,31 @@ pub(crate) fn size_fault(words: &[u32], n: usize, k: usize, m: usize, r: usize) 
 {
     if n < 1 {
         return Fault {
-            number: 2,
+            number: refusal::SIZE,
             place: 0,
         };
     }
     if n > MOST_BUSES {
         return Fault {
-            number: 2,
+            number: refusal::SIZE,
             place: 1 + MOST_BUSES,
         };
     }
     if k > MOST_GENERATORS {
         return Fault {
-            number: 2,
+            number: refusal::SIZE,
             place: 1 + n + MOST_GENERATORS,
         };
     }
     if m > MOST_BRANCHES {
         return Fault {
-            number: 2,
+            number: refusal::SIZE,
             place: 1 + n + k + MOST_BRANCHES,
         };
     }
     if r > MOST_REFERENCES {
         return Fault {
-            number: 2,
+            number: refusal::SIZE,
             place: 1 + n + k + m + MOST_REFERENCES,
         };
     }
@@ -87,12 +86,9 @@ pub(crate) fn count_fault(words: &[u32], layout: Layout, count: usize) -> Fault
     let needed = numbers_needed(words, layout);
     if count != needed {
         return Fault {
-            number: 3,
+            number: refusal::COUNT,
             place: needed,
         };
     }
-    Fault {
-        number: 0,
-        place: 0,
-    }
+    refusal::CLEAR
 }

@@ -9,9 +9,11 @@ use crate::records::Generator;
 use crate::records::bus_of;
 use crate::records::generator_of;
 use base::Fault;
+use base::refusal;
 ghost use mathlib.Core.Path.{_≡_};
 ghost use mathlib.Core.Bool.{not, _||_};
 ghost use Rattle.base.specs.Fault.{fault, unless, orElse, first};
+ghost use Rattle.base.specs.Refusal.{BOUNDS};
 ghost use Rattle.network.specs.Bounds.{boundsRight};
 ghost use Rattle.network.specs.Network.{vmBounded, capable, vmColumn, pgColumn, qgColumn, vmMin, vmMax, pMin, pMax, qMin, qMax};
 ghost use Rattle.network.specs.Fault.{faultShift, faultBounds};
@@ -26,62 +28,53 @@ pub(crate) fn shift_fault(words: &[u32], numbers: &[f64], layout: Layout) -> Fau
         let at = branch_start(words, layout, b) + 7;
         if !angle_right(numbers[at]) {
             return Fault {
-                number: 6,
+                number: refusal::SHIFT,
                 place: at,
             };
         }
         b += 1;
     }
-    Fault {
-        number: 0,
-        place: 0,
-    }
+    refusal::CLEAR
 }
 
 fn bounds_of_buses(words: &[u32], numbers: &[f64], layout: Layout) -> Fault
     requires { ⌜ Laid (now words) (now numbers) layout ⌝ }
     ensures { λ r. ⌜ r ≡ first (layout .buses) (λ i. unless (not (vmBounded (now (words .entry)) i)
         || boundsRight (vmMin (now (words .entry)) (now (numbers .entry)) i) (vmMax (now (words .entry)) (now (numbers .entry)) i))
-        (fault 7 (vmColumn (now (words .entry)) i))) ⌝ }
+        (fault BOUNDS (vmColumn (now (words .entry)) i))) ⌝ }
 {
     let mut i = 0usize;
     while i < layout.buses {
         let bus = bus_of(words, numbers, layout, i);
         if !validate_active(bus.bounded, bus.vm_min, bus.vm_max) {
             return Fault {
-                number: 7,
+                number: refusal::BOUNDS,
                 place: layout.buses + i,
             };
         }
         i += 1;
     }
-    Fault {
-        number: 0,
-        place: 0,
-    }
+    refusal::CLEAR
 }
 
 // A generator with the columns pg and qg.
 fn bounds_of_generator(g: Generator, pg: usize, qg: usize) -> Fault
-    ensures { λ r. ⌜ r ≡ orElse (unless (not (g .bounded) || boundsRight (g .«p_min») (g .«p_max»)) (fault 7 pg))
-        (unless (not (g .bounded) || boundsRight (g .«q_min») (g .«q_max»)) (fault 7 qg)) ⌝ }
+    ensures { λ r. ⌜ r ≡ orElse (unless (not (g .bounded) || boundsRight (g .«p_min») (g .«p_max»)) (fault BOUNDS pg))
+        (unless (not (g .bounded) || boundsRight (g .«q_min») (g .«q_max»)) (fault BOUNDS qg)) ⌝ }
 {
     if !validate_active(g.bounded, g.p_min, g.p_max) {
         return Fault {
-            number: 7,
+            number: refusal::BOUNDS,
             place: pg,
         };
     }
     if !validate_active(g.bounded, g.q_min, g.q_max) {
         return Fault {
-            number: 7,
+            number: refusal::BOUNDS,
             place: qg,
         };
     }
-    Fault {
-        number: 0,
-        place: 0,
-    }
+    refusal::CLEAR
 }
 
 fn bounds_of_generators(words: &[u32], numbers: &[f64], layout: Layout) -> Fault
@@ -89,10 +82,10 @@ fn bounds_of_generators(words: &[u32], numbers: &[f64], layout: Layout) -> Fault
     ensures { λ r. ⌜ r ≡ first (layout .generators) (λ g. orElse
         (unless (not (capable (now (words .entry)) g)
         || boundsRight (pMin (now (words .entry)) (now (numbers .entry)) g) (pMax (now (words .entry)) (now (numbers .entry)) g))
-        (fault 7 (pgColumn (now (words .entry)) g)))
+        (fault BOUNDS (pgColumn (now (words .entry)) g)))
         (unless (not (capable (now (words .entry)) g)
         || boundsRight (qMin (now (words .entry)) (now (numbers .entry)) g) (qMax (now (words .entry)) (now (numbers .entry)) g))
-        (fault 7 (qgColumn (now (words .entry)) g)))) ⌝ }
+        (fault BOUNDS (qgColumn (now (words .entry)) g)))) ⌝ }
 {
     let pg = 2 * layout.buses;
     let qg = pg + layout.generators;
@@ -105,10 +98,7 @@ fn bounds_of_generators(words: &[u32], numbers: &[f64], layout: Layout) -> Fault
         }
         cursor = next_generator(words, layout, cursor);
     }
-    Fault {
-        number: 0,
-        place: 0,
-    }
+    refusal::CLEAR
 }
 
 pub(crate) fn bounds_fault(words: &[u32], numbers: &[f64], layout: Layout) -> Fault

@@ -3,6 +3,7 @@ use crate::sizes::counted;
 use crate::word::load_right;
 use base::Fault;
 use base::kind_of;
+use base::refusal;
 ghost use mathlib.Core.Path.{_≡_};
 ghost use Prim.Native.Nat.{_<_};
 ghost use lib.ListN.{length};
@@ -32,7 +33,7 @@ pub(crate) fn wrong_word(words: &[u32]) -> Fault
 {
     if words.len() == 0 {
         return Fault {
-            number: 1,
+            number: refusal::WORDS,
             place: 0,
         };
     }
@@ -41,15 +42,12 @@ pub(crate) fn wrong_word(words: &[u32]) -> Fault
     while i < words.len() {
         if !word_right(words, i, before) {
             return Fault {
-                number: 1,
+                number: refusal::WORDS,
                 place: i,
             };
         }
         before = counted(before, words[i], 2);
         i += 1;
     }
-    Fault {
-        number: 0,
-        place: 0,
-    }
+    refusal::CLEAR
 }

@@ -6,6 +6,7 @@ use lib.Dec.{ltb, eqb}
 use lib.ListN.{length, take, drop}
 use Rattle.base.specs.declared.Fault.{Fault}
 use Rattle.base.specs.Fault.{fault}
+use Rattle.base.specs.Refusal.{MODEL, ROW}
 use Rattle.nl.specs.declared.Read.{Read}
 use Rattle.nl.specs.declared.Read.the-variants.{Went, Wrong}
 use Rattle.nl.specs.declared.Parts.{Parts}
@@ -20,11 +21,11 @@ found number place start end = record { number = number; place = place; start = 
 -- a wrong word anywhere: 17 and its place
 abbrev pub afterParts : Parts → (ℕ → ℕ → ℕ → ℕ → ℕ → Found) → Found
 afterParts (Stop n at k start end) f = f n at k start end
-afterParts (Bad p) f = found 17 p 0 0
+afterParts (Bad p) f = found MODEL p 0 0
 
 abbrev pub afterEnd : Read → Found → Found
 afterEnd (Went at k) f = f
-afterEnd (Wrong p) f = found 17 p 0 0
+afterEnd (Wrong p) f = found MODEL p 0 0
 
 -- "a row or the objective any that the file has", a shared part "only lower ones"
 unfoldable pub namedBy : ℕ → ℕ → ℕ → ℕ
@@ -35,7 +36,7 @@ module _ (ws : List ℕ) (constants columns r : ℕ) where
   unfoldable pub findAfter : ℕ → ℕ → ℕ → Found
   findAfter shared at k =
       afterParts (readParts ws constants columns (λ i. shared) 11 r (length ws) 0 at k 0 0)
-      (λ rows a b start end. afterEnd (readEnd ws constants columns shared a b) (cond (ltb r rows) (found 0 0 start end) (found 18 rows 0 0)))
+      (λ rows a b start end. afterEnd (readEnd ws constants columns shared a b) (cond (ltb r rows) (found 0 0 start end) (found ROW rows 0 0)))
 
   -- "The whole file is checked first."
   unfoldable pub find : Found

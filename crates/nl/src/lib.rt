@@ -4,6 +4,7 @@
 // that claims 2^28 terms stops where the words stop. Each part takes its beginning word. So the finder ends after steps in
 // proportion to the words, whatever they are, and the calls nest 9 deep at most.
 use base::Fault;
+use base::refusal;
 ghost use mathlib.Core.Path.{_≡_};
 ghost use mathlib.Core.Bool.{cond};
 ghost use lib.Dec.{eqb, ltb};
@@ -11,6 +12,7 @@ ghost use lib.Ieee.{eq};
 ghost use lib.ListN.{length};
 ghost use Prim.Native.Nat.{_+_, _*_};
 ghost use Rattle.base.specs.Fault.{packed};
+ghost use Rattle.base.specs.Refusal.{ROW};
 ghost use Rattle.nl.specs.Reader.{wordOk, arity, readHead, readExpr, isMark, readParts, readLast, readEnd};
 ghost use Rattle.nl.specs.Finder.{found, namedBy, findAfter, find, findRow, rowStart, rowLength, rowWords};
 ghost use Rattle.nl.specs.Same.{agree, same};
@@ -291,10 +293,10 @@ fn refused(number: u32, place: usize) -> Found
 
 // Row r of so many, where there is one.
 fn row_of(r: usize, rows: usize, start: usize, end: usize) -> Found
-    ensures { λ f. ⌜ f ≡ cond (ltb r rows) (found 0 0 start end) (found 18 rows 0 0) ⌝ }
+    ensures { λ f. ⌜ f ≡ cond (ltb r rows) (found 0 0 start end) (found ROW rows 0 0) ⌝ }
 {
     if rows <= r {
-        return refused(18, rows);
+        return refused(refusal::ROW, rows);
     }
     Found {
         number: 0,
@@ -318,7 +320,7 @@ fn find_after(
 {
     let s = read_parts(words, at, k, 11, r, shared, constants, columns);
     match s {
-        Parts::Bad(p) => refused(17, p),
+        Parts::Bad(p) => refused(refusal::MODEL, p),
         Parts::Stop {
             count: rows,
             at: a,
@@ -328,7 +330,7 @@ fn find_after(
         } => {
             let e = read_end(words, a, b, shared, constants, columns);
             match e {
-                Read::Wrong(p) => refused(17, p),
+                Read::Wrong(p) => refused(refusal::MODEL, p),
                 Read::Went {
                     at: _at,
                     next: _next,
@@ -344,7 +346,7 @@ fn find(words: &[u32], constants: usize, columns: usize, r: usize) -> Found
 {
     let s = read_parts(words, 0, 0, 10, r, 0, constants, columns);
     match s {
-        Parts::Bad(p) => refused(17, p),
+        Parts::Bad(p) => refused(refusal::MODEL, p),
         Parts::Stop {
             count: shared,
             at,

@@ -6,6 +6,7 @@ use mathlib.Core.List.{List, map}
 use lib.ListN.{length, getD, take, drop}
 use lib.Ieee.{Float}
 use Rattle.base.specs.Fault.{fault, clear}
+use Rattle.base.specs.Refusal.{ROW}
 use Rattle.nl.specs.Expr.{Expr, Terms, constantsOf, words}
 use Rattle.nl.specs.File.{Model, partWords, atRows, StandsFor}
 use Rattle.nl.specs.Finder.{findRow, rowStart, rowLength, rowWords}
@@ -53,7 +54,7 @@ module _ (file bits : List ℕ) (constants columns rowCount : ℕ) where
     pub row : (r : ℕ) (d : Row) → r < rowCount → Answers file constants columns r (expressionStart ws xs r) (firstConstant ws xs r) (getD (rows ws xs) r d .expression)
     -- "and 18 exactly when there is no such row", with the row count as its place.
     pub no-row : (r : ℕ) → (findRow file constants columns r .number ≡ 18) ↔ (rowCount ≤ r)
-    pub no-row-place : (r : ℕ) → rowCount ≤ r → findRow file constants columns r ≡ fault 18 rowCount
+    pub no-row-place : (r : ℕ) → rowCount ≤ r → findRow file constants columns r ≡ fault ROW rowCount
     -- "Any two files that pass reading .. have equal words and bitwise equal constants exactly when they stand for the same shared parts, rows and
     -- objective": this file and any other.
     pub same : (file′ bits′ : List ℕ) (columns′ : ℕ) (N : Model) → StandsFor file′ bits′ columns′ N → ((file ≡ file′) × (bits ≡ bits′)) ↔ (model ws xs ≡ N)

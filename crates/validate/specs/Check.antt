@@ -7,6 +7,7 @@ use lib.Dec.{eqb, leb}
 use lib.Ieee.{Float, nan, binary64, ofBits, lt}
 use Rattle.base.specs.declared.Fault.{Fault}
 use Rattle.base.specs.Fault.{fault, unless, orElse, first, Section, section, firstOf, left}
+use Rattle.base.specs.Refusal.{SHORT, POINT, SWING, DERIVED, RESIDUAL}
 use Rattle.float.specs.Number.{zero64}
 use Rattle.network.specs.Network.{buses, branches, columns, vaColumn}
 use Rattle.network.specs.Bounds.{angleRight}
@@ -41,29 +42,29 @@ module _ (ws : List ℕ) (xs x : List Float) (solver : Float) where
 
   -- 12 short: "output list short; its number from 1", for the one output list, of length `lent`
   unfoldable pub faultOutput : ℕ → Fault
-  faultOutput lent = unless (leb (2 * buses ws + 4 * branches ws) lent) (fault 12 1)
+  faultOutput lent = unless (leb (2 * buses ws + 4 * branches ws) lent) (fault SHORT 1)
 
   -- 13 point: "wrong length (place: columns), else first non-finite column"
   unfoldable pub faultPoint : Fault
-  faultPoint = orElse (unless (eqb (length x) (columns ws)) (fault 13 (columns ws))) (firstNonFinite 13 x)
+  faultPoint = orElse (unless (eqb (length x) (columns ws)) (fault POINT (columns ws))) (firstNonFinite POINT x)
 
   -- 14 swing: "va outside -1,024 to 1,024; column"
   unfoldable pub faultSwing : Fault
-  faultSwing = first (buses ws) (λ i. unless (angleRight (va ws x i)) (fault 14 (vaColumn ws i)))
+  faultSwing = first (buses ws) (λ i. unless (angleRight (va ws x i)) (fault SWING (vaColumn ws i)))
 
   -- 15 derived: "output non-finite, its index; solver objective 2n + 4m, own 2n + 4m + 1"
   unfoldable pub faultDerived : Solved → Fault
-  faultDerived s = firstNonFinite 15 (s .outputs ++ (solver ∷ s .objective ∷ []))
+  faultDerived s = firstNonFinite DERIVED (s .outputs ++ (solver ∷ s .objective ∷ []))
 
   -- 16 residual: "one above tolerance; first, 1-8"; "only above refuses"
   unfoldable pub faultResidual : Solved → Fault
-  faultResidual s = first 8 (λ i. unless (not (lt (getD tolerances i nan) (getD (s .residuals) i nan))) (fault 16 (i + 1)))
+  faultResidual s = first 8 (λ i. unless (not (lt (getD tolerances i nan) (getD (s .residuals) i nan))) (fault RESIDUAL (i + 1)))
 
   -- 12 to 16 in their order
   abbrev pub pointSections : ℕ → Solved → List Section
   pointSections lent s =
-      section (12 ∷ []) (faultOutput lent) ∷ section (13 ∷ []) faultPoint ∷ section (14 ∷ []) faultSwing
-      ∷ section (15 ∷ []) (faultDerived s) ∷ section (16 ∷ []) (faultResidual s) ∷ []
+      section (SHORT ∷ []) (faultOutput lent) ∷ section (POINT ∷ []) faultPoint ∷ section (SWING ∷ []) faultSwing
+      ∷ section (DERIVED ∷ []) (faultDerived s) ∷ section (RESIDUAL ∷ []) (faultResidual s) ∷ []
 
   -- "check 1-16"
   abbrev pub checkSections : ℕ → Solved → List Section
@@ -96,12 +97,12 @@ module _ (ws : List ℕ) (xs x : List Float) (solver : Float) where
 
   -- 12 short, for the one list that is written here, of length `lent`
   unfoldable pub faultReport : ℕ → Fault
-  faultReport lent = unless (leb 9 lent) (fault 12 1)
+  faultReport lent = unless (leb 9 lent) (fault SHORT 1)
 
   -- 12 to 15 in their order; a residual above its tolerance is no refusal
   abbrev pub reportSections : ℕ → Solved → List Section
   reportSections lent s =
-      section (12 ∷ []) (faultReport lent) ∷ section (13 ∷ []) faultPoint ∷ section (14 ∷ []) faultSwing ∷ section (15 ∷ []) (faultDerived s) ∷ []
+      section (SHORT ∷ []) (faultReport lent) ∷ section (POINT ∷ []) faultPoint ∷ section (SWING ∷ []) faultSwing ∷ section (DERIVED ∷ []) (faultDerived s) ∷ []
 
   -- 1 to 15 as the check's
   unfoldable pub residualsFault : ℕ → Fault

@@ -1,5 +1,6 @@
 // The number of columns, and refusals 12, short, 13, point, and 14, swing.
 use base::Fault;
+use base::refusal;
 use derived::first_non_finite;
 use network::Layout;
 ghost use mathlib.Core.Path.{_≡_};
@@ -29,14 +30,11 @@ pub(crate) fn output_fault(lent: usize, count: usize) -> Fault
 {
     if count > lent {
         return Fault {
-            number: 12,
+            number: refusal::SHORT,
             place: 1,
         };
     }
-    Fault {
-        number: 0,
-        place: 0,
-    }
+    refusal::CLEAR
 }
 
 // 13, where the network has `needed` columns.
@@ -47,11 +45,11 @@ pub(crate) fn point_fault(point: &[f64], needed: usize) -> Fault
 {
     if point.len() != needed {
         return Fault {
-            number: 13,
+            number: refusal::POINT,
             place: needed,
         };
     }
-    first_non_finite(point, needed, 13, 0)
+    first_non_finite(point, needed, refusal::POINT, 0)
 }
 
 // 14: va is the first n columns.
@@ -64,14 +62,11 @@ pub(crate) fn swing_fault(point: &[f64], n: usize) -> Fault
     while i < n {
         if !network::angle_right(point[i]) {
             return Fault {
-                number: 14,
+                number: refusal::SWING,
                 place: i,
             };
         }
         i += 1;
     }
-    Fault {
-        number: 0,
-        place: 0,
-    }
+    refusal::CLEAR
 }

@@ -3,6 +3,7 @@ use crate::point::columns_of;
 use crate::point::point_fault;
 use crate::point::swing_fault;
 use base::Fault;
+use base::refusal;
 use derived::MOST_OUTPUTS;
 use derived::MOST_PER_BUS;
 use derived::derived_fault;
@@ -30,14 +31,11 @@ fn report_fault(lent: usize) -> Fault
 {
     if lent < 9 {
         return Fault {
-            number: 12,
+            number: refusal::SHORT,
             place: 1,
         };
     }
-    Fault {
-        number: 0,
-        place: 0,
-    }
+    refusal::CLEAR
 }
 
 fn write_nine(report: &mut [f64], nine: [f64; 9])
