@@ -17,7 +17,7 @@ use Rattle.base.specs.declared.Fault.{Fault}
 use Rattle.float.proofs.Above.{maximum-law}
 use Rattle.float.proofs.Finite.{finite-append}
 use Rattle.float.specs.Number.{isFinite, AllFinite, maximum, _⊖_, zero64}
-use Rattle.network.specs.Bounds.{positiveViolation}
+use Rattle.bounds.specs.Bounds.{positiveViolation}
 use Rattle.network.specs.Network.{buses, generators, branches, references, columns}
 use Rattle.acopf.specs.Factor.{firstNonFinite, networkFault}
 use Rattle.acopf.proofs.Order.{network-proper}

@@ -18,7 +18,7 @@ use Rattle.fdlibm.specs.Hypot.{hypotenuse}
 use Rattle.fdlibm.proofs.HypotNumber.{hypotenuse-number}
 use Rattle.network.specs.Network.{buses, generators, branches, from, to, angled, limited, curved, segments, curveAt, epigraphsBefore, columns, pgColumn, epigraphColumn, angleMin, angleMax, sMax}
 use Rattle.network.proofs.Places.{and-left, and-right, from-bus, to-bus, referred-bus}
-use Rattle.network.proofs.Right.{lower-right, upper-right, words-clear, angle-right, rating-right}
+use Rattle.tables.proofs.Right.{lower-right, upper-right, words-clear, angle-right, rating-right}
 use Rattle.acopf.specs.Columns.{columnLower, columnUpper}
 use Rattle.acopf.specs.Curve.{slope, intercept, evaluate, curveValue}
 use Rattle.acopf.specs.Factor.{networkFault}

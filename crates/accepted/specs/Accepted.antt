@@ -10,7 +10,7 @@ use Rattle.base.specs.Fault.{clear}
 use Rattle.float.specs.Number.{_⊖_, _⊘_, zero64, one64, isFinite, absolute, maximum, AllFinite}
 use Rattle.fdlibm.specs.Hypot.{hypotenuse}
 use Rattle.network.specs.Network.{buses, generators, branches, references, from, to, angled, referred, curved, columns, angleMin, angleMax, sMax}
-use Rattle.network.specs.Bounds.{angleRight, positiveViolation}
+use Rattle.bounds.specs.Bounds.{angleRight, positiveViolation}
 use Rattle.acopf.specs.Curve.{curveValue}
 use Rattle.acopf.specs.Columns.{columnLower, columnUpper}
 use Rattle.acopf.specs.Rows.{rated}

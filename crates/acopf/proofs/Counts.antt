@@ -9,7 +9,7 @@ use Rattle.base.proofs.Loops.{length-table, length-each, length-kept}
 use Rattle.base.specs.Loop.{table, each, keep}
 use Rattle.nl.specs.Expr.{Expr, count, column}
 use Rattle.nl.specs.File.{modelConstants}
-use Rattle.network.specs.Bounds.{huge64}
+use Rattle.bounds.specs.Bounds.{huge64}
 use Rattle.network.specs.Network.{buses, generators, branches, curved, epigraphsBefore, columns, vmColumn}
 use Rattle.acopf.specs.Build.{square, terms}
 use Rattle.acopf.specs.Columns.{vmLower, vmUpper, pgLower, pgUpper, qgLower, qgUpper, vaStart, vmStart, pgStart, qgStart, epigraphStart, columnLower, columnUpper, columnStart}

@@ -8,7 +8,7 @@ use lib.Ieee.{Float, nan, neg}
 use Rattle.float.specs.Number.{_⊕_, _⊖_, _⊗_, _⊘_, isFinite}
 use Rattle.float.proofs.Negated.{SignChanged, neg-neg, mul-neg, neg-mul, add-neg, sub-neg, neg-add, square-over}
 use Rattle.fdlibm.specs.Trig.{sine, cosine}
-use Rattle.network.specs.Bounds.{finiteOr}
+use Rattle.bounds.specs.Bounds.{finiteOr}
 use Rattle.network.specs.Network.{vaGiven, lineG, lineB, gFr, bFr, gTo, bTo, tap, shift}
 use Rattle.acopf.specs.Columns.{vaStart}
 use Rattle.acopf.specs.Flow.{Complex, conjugate, transferFrom, transferTo, coefficients, branchCoefficients}

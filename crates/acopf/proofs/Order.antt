@@ -12,8 +12,8 @@ use Rattle.base.specs.Order.{IsFirst}
 use Rattle.base.proofs.Firsts.{Clear, Spans, Proper, or-proper, unless-proper, first-proper, spans-unless, spans-first, FirstFail, first-fails}
 use Rattle.base.proofs.Order.{AllGive, gives-one, give-append, first-append, refusal-is-first}
 use Rattle.float.specs.Number.{isFinite}
-use Rattle.network.specs.Fault.{tableSections, faultTables}
-use Rattle.network.proofs.Order.{tables-give}
+use Rattle.tables.specs.Fault.{tableSections, faultTables}
+use Rattle.tables.proofs.Order.{tables-give}
 use Rattle.acopf.specs.Columns.{columnStart}
 use Rattle.acopf.specs.Factor.{firstNonFinite, constants64, faultFactor, networkSections, networkFault}
 use Rattle.acopf.specs.Model.{objectiveConstant}

@@ -16,10 +16,10 @@ use Rattle.float.specs.Number.{isFinite, AllFinite, zero64}
 use Rattle.float.proofs.Finite.{finite-append}
 use Rattle.nl.specs.Expr.{constants, constantsOf}
 use Rattle.nl.specs.File.{modelConstants}
-use Rattle.network.specs.Bounds.{huge64}
-use Rattle.network.specs.Fault.{faultTables}
+use Rattle.bounds.specs.Bounds.{huge64}
+use Rattle.tables.specs.Fault.{faultTables}
 use Rattle.network.specs.Network.{buses, generators, branches, references, vmBounded, capable, angled, curved, segments, curveAt, epigraphsBefore}
-use Rattle.network.proofs.Right.{lower-right, upper-right, vm-right, pg-right, qg-right}
+use Rattle.tables.proofs.Right.{lower-right, upper-right, vm-right, pg-right, qg-right}
 use Rattle.acopf.specs.Build.{terms}
 use Rattle.acopf.specs.Columns.{vmLower, vmUpper, pgLower, pgUpper, qgLower, qgUpper, columnLower, columnUpper, columnStart}
 use Rattle.acopf.specs.Curve.{slope, intercept}

@@ -5,7 +5,7 @@ use mathlib.Core.List.{List, _++_}
 use lib.Ieee.{Float, neg}
 use Rattle.base.specs.Loop.{table, each, keep}
 use Rattle.float.specs.Number.{zero64}
-use Rattle.network.specs.Bounds.{huge64, finiteOr, clampStart}
+use Rattle.bounds.specs.Bounds.{huge64, finiteOr, clampStart}
 use Rattle.network.specs.Network.{buses, generators, vmBounded, capable, curved, epigraphsBefore, vmMin, vmMax, vaGiven, vmGiven, pMin, pMax, qMin, qMax, pgGiven, qgGiven}
 use Rattle.acopf.specs.Curve.{curveValue}
 

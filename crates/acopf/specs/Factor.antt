@@ -9,7 +9,7 @@ use Rattle.base.specs.Fault.{fault, unless, first, Section, section, firstOf}
 use Rattle.base.specs.Refusal.{FACTOR}
 use Rattle.float.specs.Number.{isFinite}
 use Rattle.nl.specs.File.{modelConstants}
-use Rattle.network.specs.Fault.{tableSections}
+use Rattle.tables.specs.Fault.{tableSections}
 use Rattle.acopf.specs.Columns.{columnStart}
 use Rattle.acopf.specs.Model.{objectiveConstant, model}
 

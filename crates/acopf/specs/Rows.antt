@@ -7,7 +7,7 @@ use lib.Ieee.{Float, neg}
 use Rattle.base.specs.Loop.{table, each, keep}
 use Rattle.float.specs.Number.{_⊗_, zero64, one64}
 use Rattle.nl.specs.Expr.{Expr, column}
-use Rattle.network.specs.Bounds.{huge64}
+use Rattle.bounds.specs.Bounds.{huge64}
 pub use Rattle.network.specs.Network.{rated}
 use Rattle.network.specs.Network.{buses, generators, branches, references, busOf, from, to, angled, referred, curveAt, segments, curved, vaColumn, pgColumn, qgColumn, epigraphColumn, pD, qD, gS, bS, angleMin, angleMax, sMax}
 use Rattle.acopf.specs.Curve.{slope, intercept}

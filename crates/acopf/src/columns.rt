@@ -1,13 +1,13 @@
 // A generator's bounds and start in the model's columns, and the start of its epigraph column.
 use crate::curve::curve_value;
+use bounds::clamp_start;
 use network::Generator;
-use network::clamp_start;
 ghost use mathlib.Core.Path.{_≡_};
 ghost use mathlib.Core.Bool.{cond};
 ghost use Prim.Native.Nat.{_+_, _-_, _*_, _≤_};
 ghost use lib.Ieee.{neg};
 ghost use lib.ListN.{length};
-ghost use Rattle.network.specs.Bounds.{huge64, clampStart};
+ghost use Rattle.bounds.specs.Bounds.{huge64, clampStart};
 ghost use Rattle.network.specs.Limits.{pointNumbers, mostPoints};
 ghost use Rattle.acopf.specs.Curve.{evaluate};
 

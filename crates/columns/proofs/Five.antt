@@ -8,10 +8,10 @@ use lib.Ieee.{Float, neg}
 use lib.ListN.{length, drop, replicate}
 use Rattle.base.specs.Loop.{loop, table, each}
 use Rattle.base.proofs.Firsts.{Clear}
-use Rattle.network.specs.Bounds.{huge64}
-use Rattle.network.specs.Fault.{faultTables}
+use Rattle.bounds.specs.Bounds.{huge64}
+use Rattle.tables.specs.Fault.{faultTables}
 use Rattle.network.specs.Network.{buses, generators, epigraphsBefore, columns, generatorAt, pgGiven, qgGiven}
-use Rattle.network.proofs.Good.{good}
+use Rattle.tables.proofs.Laid.{good}
 use Rattle.acopf.specs.Columns.{pgLower, pgUpper, qgLower, qgUpper, vaStart, vmStart, pgStart, qgStart, columnLower, columnUpper, columnStart}
 use Rattle.acopf.proofs.Counts.{lower-columns, upper-columns, start-columns}
 use Rattle.factor.proofs.Steps.{room}

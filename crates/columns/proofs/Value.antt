@@ -9,7 +9,7 @@ use lib.Ieee.{Float, neg}
 use lib.ListN.{length, getD}
 use Rattle.base.specs.Loop.{each, keep}
 use Rattle.base.proofs.Loops.{length-kept}
-use Rattle.network.specs.Bounds.{huge64, clampStart}
+use Rattle.bounds.specs.Bounds.{huge64, clampStart}
 use Rattle.network.specs.Network.{buses, costs, number, curved, generatorAt, epigraphsBefore}
 use Rattle.network.specs.Word.{generatorPoints, generatorBounded}
 use Rattle.acopf.specs.Columns.{pgLower, pgUpper, pgStart, epigraphStart}

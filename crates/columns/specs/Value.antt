@@ -5,7 +5,7 @@ use mathlib.Core.List.{List}
 use lib.Ieee.{Float, neg}
 use Rattle.base.specs.Loop.{keep}
 use Rattle.float.specs.Number.{zero64}
-use Rattle.network.specs.Bounds.{huge64, finiteOr, clampStart}
+use Rattle.bounds.specs.Bounds.{huge64, finiteOr, clampStart}
 use Rattle.network.specs.Network.{capable, curved, generatorAt, number, vmGiven}
 use Rattle.acopf.specs.Columns.{vmLower, vmUpper, epigraphStart}
 use Rattle.columns.specs.declared.ColumnList.{ColumnList}

@@ -12,7 +12,7 @@ ghost use mathlib.Core.Path.{_≡_};
 ghost use mathlib.Core.List.{_++_};
 ghost use Prim.Native.Nat.{_≤_};
 ghost use lib.ListN.{length, drop};
-ghost use Rattle.network.specs.Fault.{faultTables};
+ghost use Rattle.tables.specs.Fault.{faultTables};
 ghost use Rattle.network.specs.Network.{buses, generators, columns};
 ghost use Rattle.acopf.specs.Columns.{columnLower, columnUpper, columnStart};
 

@@ -1,14 +1,14 @@
 // The sections of a column list. Each is written from the place `to` on, and its writer answers the place after it.
 use crate::ColumnList;
-use crate::bounds::column_value;
-use crate::bounds::generator_value;
-use crate::bounds::vm_lower;
-use crate::bounds::vm_upper;
+use crate::values::column_value;
+use crate::values::generator_value;
+use crate::values::vm_lower;
+use crate::values::vm_upper;
 ghost use mathlib.Core.Path.{_≡_};
 ghost use Prim.Native.Nat.{_+_, _*_, _≤_};
 ghost use lib.ListN.{length};
 ghost use Rattle.base.specs.Loop.{table, each};
-ghost use Rattle.network.specs.Fault.{faultTables};
+ghost use Rattle.tables.specs.Fault.{faultTables};
 ghost use Rattle.network.specs.Network.{buses, generators, costs, epigraphsBefore};
 ghost use Rattle.base.specs.Section.{Wrote};
 ghost use Rattle.columns.specs.Value.{vaValue, vmValue, generatorValue, epigraphValue};
@@ -20,7 +20,7 @@ pub(crate) fn va_starts(numbers: &[f64], n: usize, out: &mut [f64], to: usize) -
 {
     let mut i = 0usize;
     while i < n {
-        out[to + i] = network::finite_or(numbers[8 * i + 6], 0.0);
+        out[to + i] = bounds::finite_or(numbers[8 * i + 6], 0.0);
         i += 1;
     }
     to + n

@@ -11,7 +11,7 @@ use borrow.Author.Tests.{eq-eqb, ne-eqb, eqb-true, eqb-false, le-leb}
 use Rattle.base.specs.declared.Fault.{Fault}
 use Rattle.base.specs.Fault.{fault, unless, first}
 use Rattle.base.proofs.Firsts.{Clear, or-left, or-clear, or-go, or-stop, unless-clear, all-clear}
-use Rattle.network.specs.Fault.{faultTables}
+use Rattle.tables.specs.Fault.{faultTables}
 use Rattle.acopf.specs.Factor.{faultFactor, networkFault}
 use Rattle.acopf.proofs.Order.{network-is}
 use Rattle.compile.specs.declared.Compiled.{Compiled}

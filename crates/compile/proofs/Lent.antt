@@ -8,7 +8,7 @@ use borrow.Author.Tests.{eq-eqb}
 use Rattle.base.specs.Fault.{left}
 use Rattle.base.proofs.Firsts.{Clear}
 use Rattle.base.proofs.Left.{left-refused}
-use Rattle.network.specs.Fault.{faultTables}
+use Rattle.tables.specs.Fault.{faultTables}
 use Rattle.compile.specs.declared.Compiled.{Compiled}
 use Rattle.compile.specs.Compile.{compileFault, compiled}
 use Rattle.compile.specs.Counted.{Suffice}

@@ -9,10 +9,11 @@ use lib.ListN.{length}
 use lib.Ieee.{Float}
 use Rattle.base.proofs.Firsts.{Clear, or-left}
 use Rattle.base.proofs.Loops.{bit}
-use Rattle.network.specs.Fault.{faultWords, faultTables}
+use Rattle.network.specs.Fault.{faultWords}
+use Rattle.tables.specs.Fault.{faultTables}
 use Rattle.base.specs.Loop.{tally}
 use Rattle.network.specs.Network.{buses, generators, branches, references, costs, columns, generatorAt, epigraphsBefore}
-use Rattle.network.proofs.Good.{good}
+use Rattle.tables.proofs.Laid.{good}
 use Rattle.acopf.specs.Rows.{rated as isRated}
 use Rattle.acopf.specs.Model.{objectiveConstant, fileWords}
 use Rattle.acopf.specs.Parts.{sharedParts}

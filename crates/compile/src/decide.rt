@@ -20,7 +20,7 @@ ghost use lib.ListN.{length, getD};
 ghost use Rattle.base.proofs.Loops.{bit};
 ghost use Rattle.base.specs.Fault.{fault, unless, first};
 ghost use Rattle.base.specs.Refusal.{SHORT};
-ghost use Rattle.network.specs.Fault.{faultTables};
+ghost use Rattle.tables.specs.Fault.{faultTables};
 ghost use Rattle.network.specs.Network.{buses, generators, branches, references, costs};
 ghost use Rattle.compile.specs.Compile.{refused, accepted, sized, compiled};
 ghost use Rattle.compile.specs.Tallies.{Tallied, Few};

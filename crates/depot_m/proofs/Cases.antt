@@ -19,8 +19,9 @@ use Rattle.nl.specs.Reader.{wordOk, arity, uses, readHead, readExpr, isMark, re
 use Rattle.nl.specs.Finder.{findAfter, find, findRow, rowWords}
 use Rattle.network.specs.Word.{loadRight}
 use Rattle.network.specs.Network.{kindBefore, buses, generators, branches, references, generatorAt, branchAt, needed, epigraphsBefore, columns}
-use Rattle.network.specs.Bounds.{swing64, huge64, finiteOr, clampStart, boundsRight, angleRight, positiveViolation}
-use Rattle.network.specs.Fault.{wordRight, faultWords, faultSize, blanks, faultCount, faultBlank, faultCurve, faultShift, faultBounds, faultSpread, faultRating, faultSquare, branchFault, faultBranches, faultTables}
+use Rattle.bounds.specs.Bounds.{swing64, huge64, finiteOr, clampStart, boundsRight, angleRight, positiveViolation}
+use Rattle.network.specs.Fault.{wordRight, faultWords, faultSize, faultCount}
+use Rattle.tables.specs.Fault.{blanks, faultBlank, faultCurve, faultShift, faultBounds, faultSpread, faultRating, faultSquare, branchFault, faultBranches, faultTables}
 use Rattle.acopf.specs.Curve.{slope, intercept, evaluate}
 use Rattle.acopf.specs.Flow.{coefficients, flowAt, flowOf, flow}
 use Rattle.acopf.specs.Columns.{vmLower, vmUpper, pgLower, pgUpper, qgLower, qgUpper, vaStart, vmStart, pgStart, qgStart, epigraphStart, columnLower, columnUpper, columnStart}

@@ -15,12 +15,12 @@ use Rattle.base.proofs.Firsts.{Clear}
 use Rattle.base.proofs.Loops.{bit, length-table, tally-le}
 use Rattle.nl.specs.Expr.{Expr, constants, constantsOf}
 use Rattle.nl.specs.File.{modelWords, modelConstants}
-use Rattle.network.specs.Fault.{faultTables}
+use Rattle.tables.specs.Fault.{faultTables}
 use Rattle.network.specs.Network.{buses, generators, branches, references, costs, curved, segments, angled, epigraphsBefore}
 use Rattle.network.specs.declared.layout.Layout.{Layout}
 use Rattle.network.specs.Layout.{Laid, layoutOf}
-use Rattle.network.proofs.Good.{good}
-use Rattle.network.proofs.Right.{words-clear}
+use Rattle.tables.proofs.Laid.{good}
+use Rattle.tables.proofs.Right.{words-clear}
 use Rattle.acopf.specs.Build.{terms, sum}
 use Rattle.acopf.specs.Factor.{constants64}
 use Rattle.acopf.specs.Model.{costTerm, objective, model, fileWords}

@@ -12,7 +12,7 @@ ghost use mathlib.Core.Path.{_≡_};
 ghost use mathlib.Core.List.{_++_};
 ghost use Prim.Native.Nat.{_≤_};
 ghost use lib.ListN.{length, drop};
-ghost use Rattle.network.specs.Fault.{faultTables};
+ghost use Rattle.tables.specs.Fault.{faultTables};
 ghost use Rattle.acopf.specs.Factor.{constants64};
 ghost use Rattle.acopf.specs.Model.{fileWords};
 ghost use Rattle.emit.specs.Tokens.{Written, Room};

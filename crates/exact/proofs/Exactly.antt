@@ -23,7 +23,7 @@ use Rattle.hypot_error.proofs.Within.{hypot-within, hypot-within-unit}
 use Rattle.fdlibm.specs.Hypot.{hypotenuse}
 use Rattle.network.specs.Network.{buses, generators, branches, angled, limited, curved, epigraphsBefore, columns, epigraphColumn, angleMin, angleMax, sMax}
 use Rattle.network.proofs.Places.{and-left, and-right}
-use Rattle.network.proofs.Right.{lower-right, upper-right, angle-right, rating-right}
+use Rattle.tables.proofs.Right.{lower-right, upper-right, angle-right, rating-right}
 use Rattle.acopf.specs.Columns.{columnLower, columnUpper}
 use Rattle.acopf.specs.Curve.{curveValue}
 use Rattle.acopf.specs.Rows.{rated}

@@ -13,7 +13,7 @@ use Rattle.base.proofs.Loops.{Every, every-append, every-table, all-at, loop-ke
 use Rattle.float.specs.Number.{_⊖_, zero64}
 use Rattle.float.specs.Doubles.{Doubles}
 use Rattle.network.specs.Network.{buses, generators, branches, costs, busOf, from, to, vmBounded, capable, epigraphsBefore, columns, segments}
-use Rattle.network.specs.Bounds.{huge64}
+use Rattle.bounds.specs.Bounds.{huge64}
 use Rattle.acopf.specs.Columns.{vmLower, vmUpper, pgLower, pgUpper, qgLower, qgUpper, columnLower, columnUpper}
 use Rattle.acopf.specs.Curve.{evaluate, curveValue}
 use Rattle.acopf.proofs.Counts.{lower-columns, upper-columns}

@@ -10,11 +10,11 @@ use lib.ListN.{length}
 use Rattle.base.specs.Fault.{orElse}
 use Rattle.base.specs.Loop.{tally}
 use Rattle.base.proofs.Firsts.{Clear}
-use Rattle.network.specs.Fault.{faultTables}
+use Rattle.tables.specs.Fault.{faultTables}
 use Rattle.network.specs.Layout.{Laid}
 use Rattle.network.specs.declared.layout.Layout.{Layout}
 use Rattle.network.specs.Network.{buses, branches, rated}
-use Rattle.network.proofs.Right.{words-clear}
+use Rattle.tables.proofs.Right.{words-clear}
 use Rattle.acopf.specs.Factor.{constants64}
 use Rattle.acopf.specs.Model.{objectiveConstant}
 use Rattle.acopf.specs.Tallies.{Tallied}

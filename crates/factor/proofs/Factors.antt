@@ -20,9 +20,9 @@ use Rattle.base.proofs.Totals.{total, total-same, total-times, length-turns}
 use Rattle.float.specs.Number.{isFinite, zero64}
 use Rattle.nl.specs.Expr.{Expr, constants, constantsOf, column}
 use Rattle.nl.specs.File.{modelConstants}
-use Rattle.network.specs.Fault.{faultTables}
+use Rattle.tables.specs.Fault.{faultTables}
 use Rattle.network.specs.Network.{buses, generators, branches, vmBounded, capable, curved, segments, curveAt, epigraphsBefore, epigraphColumn, vmColumn}
-use Rattle.network.proofs.Right.{lower-right, upper-right, words-clear, vm-right, pg-right, qg-right}
+use Rattle.tables.proofs.Right.{lower-right, upper-right, words-clear, vm-right, pg-right, qg-right}
 use Rattle.acopf.specs.Build.{square, terms}
 use Rattle.acopf.specs.Columns.{vmLower, vmUpper, pgLower, pgUpper, qgLower, qgUpper, vaStart, vmStart, pgStart, qgStart, epigraphStart, columnStart}
 use Rattle.acopf.specs.Curve.{slope, intercept}

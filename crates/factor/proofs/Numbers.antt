@@ -14,7 +14,7 @@ use Rattle.float.specs.Number.{_⊗_, half64, zero64, isFinite, absolute}
 use Rattle.float.proofs.Really.{Signed, round-signed}
 use Rattle.float.proofs.Values.{value-finite, mul-at, round-units}
 use Rattle.float.proofs.Patterns.{absolute-bits, absolute-fits, finite-bits, pattern-value, worth, digits, place, digits-lt}
-use Rattle.network.specs.Bounds.{huge64, finiteOr, clampStart}
+use Rattle.bounds.specs.Bounds.{huge64, finiteOr, clampStart}
 
 pub neg-finite : (x : Float) → isFinite x ≡ true → isFinite (neg x) ≡ true
 unfolding neg isFinite

@@ -6,7 +6,7 @@ use lib.Ieee.{Float}
 use Rattle.base.specs.declared.Fault.{Fault}
 use Rattle.base.specs.Fault.{clear}
 use Rattle.base.proofs.Firsts.{Clear, or-go, or-stop}
-use Rattle.network.specs.Fault.{faultTables}
+use Rattle.tables.specs.Fault.{faultTables}
 use Rattle.acopf.specs.Factor.{faultFactor, networkFault}
 use Rattle.acopf.proofs.Order.{network-is, network-proper}
 

@@ -14,11 +14,12 @@ use Rattle.base.specs.Fault.{fault, unless}
 use Rattle.float.specs.Number.{_⊕_, zero64, isFinite}
 use Rattle.base.proofs.Firsts.{Clear, Proper, or-proper, unless-proper, first-proper}
 use Rattle.base.proofs.Loops.{tally-le}
-use Rattle.network.specs.Fault.{faultTables}
+use Rattle.tables.specs.Fault.{faultTables}
 use Rattle.network.specs.Network.{buses, generators, costs, points, number, curved, cost0, generatorAt, curveAt, branchAt, epigraphsBefore, epigraphColumn}
 use Rattle.network.specs.Word.{generatorPoints, generatorBounded, branchLimited}
-use Rattle.network.specs.Bounds.{huge64, clampStart}
-use Rattle.network.proofs.Good.{good, generator-next}
+use Rattle.bounds.specs.Bounds.{huge64, clampStart}
+use Rattle.network.proofs.Good.{generator-next}
+use Rattle.tables.proofs.Laid.{good}
 use Rattle.network.specs.declared.layout.Layout.{Layout}
 use Rattle.network.specs.declared.records.Generator.{Generator}
 use Rattle.network.specs.Layout.{Laid, GeneratorRead}

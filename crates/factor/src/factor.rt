@@ -23,7 +23,7 @@ ghost use lib.ListN.{length};
 ghost use Rattle.base.specs.Fault.{fault, unless, orElse};
 ghost use Rattle.base.specs.Refusal.{FACTOR};
 ghost use Rattle.float.specs.Number.{isFinite};
-ghost use Rattle.network.specs.Fault.{faultTables};
+ghost use Rattle.tables.specs.Fault.{faultTables};
 ghost use Rattle.network.specs.Layout.{Laid};
 ghost use Rattle.acopf.specs.Curve.{slope, intercept};
 ghost use Rattle.acopf.specs.Factor.{faultFactor};

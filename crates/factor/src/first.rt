@@ -5,7 +5,7 @@ use acopf::tallies_of;
 use base::Fault;
 use base::refusal;
 use network::Layout;
-use network::tables_of;
+use tables::tables_of;
 ghost use mathlib.Core.Path.{_≡_};
 ghost use Rattle.acopf.specs.Factor.{networkFault};
 ghost use Rattle.factor.specs.Judged.{Judges};

@@ -1,6 +1,6 @@
 -- Refusals 1 and 2 leave words whose layout is right, and 3 a list of numbers that fits it; a cursor's step; the records.
 use mathlib.Core.Path.{_≡_, refl, sym, ap, _∙_}
-use mathlib.Core.Bool.{Bool, true, false, cond, not, _&&_}
+use mathlib.Core.Bool.{Bool, not, _&&_}
 use mathlib.Core.List.{List}
 use Prim.Native.Nat.{ℕ, _+_, _*_, _<_, _≤_}
 use native.Mathlib.Omega.{arith}
@@ -8,10 +8,9 @@ use lib.Dec.{eqb}
 use lib.ListN.{length, getD}
 use lib.Ieee.{Float}
 use Rattle.base.proofs.Firsts.{Clear, or-left, or-right}
-use Rattle.base.specs.Fault.{orElse}
 use Rattle.base.specs.declared.Fault.{Fault}
 use Rattle.float.specs.Doubles.{Doubles}
-use Rattle.network.specs.Fault.{faultWords, faultSize, faultCount, faultBlank, faultCurve, faultShift, faultBounds, faultBranches, faultTables, wordsFault, formFault}
+use Rattle.network.specs.Fault.{faultWords, faultSize, faultCount, wordsFault, formFault}
 use Rattle.network.specs.Limits.{generatorNumbers, pointNumbers, branchNumbers, mostPoints}
 use Rattle.network.specs.Network.{generators, generatorPlace, branchPlace, referencePlace, points, referred, branchAt, needed}
 use Rattle.network.specs.Word.{generatorBus, generatorBounded, generatorPoints, branchFrom, branchTo, branchAngled, branchLimited, referenceBus}
@@ -22,7 +21,7 @@ use Rattle.network.specs.declared.records.Branch.{Branch}
 use Rattle.network.specs.declared.layout.Cursor.{Cursor}
 use Rattle.network.specs.Layout.{layoutOf, generatorAtPlace, branchAtPlace, generatorRecord, branchRecord, LaidWords, Laid, Standing, GeneratorRead, BranchRead, Formed}
 use Rattle.network.proofs.Places.{words-length, bus-of-generator, no-single-point, from-bus, to-bus, referred-bus, limits}
-use Rattle.network.proofs.Good.{Good, good-shape, good, generator-zero, generator-next, generator-start, generator-high, generator-fits}
+use Rattle.network.proofs.Good.{Good, good-shape, generator-zero, generator-next, generator-start, generator-high, generator-fits}
 
 module _ (ws : List ℕ) where
   laid-words-of : Clear (faultWords ws) → Clear (faultSize ws) → LaidWords ws (layoutOf ws)
@@ -71,24 +70,7 @@ module _ (ws : List ℕ) (xs : List Float) where
   pub laid-form : Clear (faultWords ws) → Clear (faultSize ws) → Clear (faultCount ws xs) → Doubles xs → {l : Layout} → l ≡ layoutOf ws → Laid ws xs l
   laid-form w s c D e = rw e (laid-good (laid-words-of ws w s) (good-shape ws xs w s c) D)
 
-  pub laid : Clear (faultTables ws xs) → Doubles xs → {l : Layout} → l ≡ layoutOf ws → Laid ws xs l
-  unfolding faultTables
-  laid h D e = rw e (laid-good (laid-words-of ws (or-left _ _ h) (or-left _ _ (or-right _ _ h))) (good ws xs h) D)
-
 -- ---- the answers of the checks
-
-or-assoc : (f g h : Fault) → orElse (orElse f g) h ≡ orElse f (orElse g h)
-unfolding orElse
-or-assoc f g h = go (eqb (f .number) 0) refl
-  where
-    go : (t : Bool) → eqb (f .number) 0 ≡ t → cond (eqb (cond t g f .number) 0) h (cond t g f) ≡ cond t (cond (eqb (g .number) 0) h g) f
-    go true e = refl
-    go false e = rw e
-
-pub tables-form : (ws : List ℕ) (xs : List Float) → faultTables ws xs
-    ≡ orElse (formFault ws (length xs)) (orElse (faultBlank ws xs) (orElse (faultCurve ws xs) (orElse (faultShift ws xs) (orElse (faultBounds ws xs) (faultBranches ws xs)))))
-unfolding faultTables formFault wordsFault faultCount
-tables-form ws xs = sym (or-assoc _ _ _ ∙ or-assoc _ _ _)
 
 module _ {ws : List ℕ} where
   pub formed-stop : {f g : Fault} {r : Form} → r .fault ≡ g → g ≡ f → (Clear g → ⊥) → Formed ws f r
@@ -107,9 +89,6 @@ module _ {ws : List ℕ} where
       let k = formed-clear F h in
       let w = or-left _ _ k in
       laid-form ws xs (or-left _ _ w) (or-right _ _ w) (or-right _ _ k) D (F .layout k)
-
-  pub formed-tables : {xs : List Float} {r : Form} → Formed ws (faultTables ws xs) r → Doubles xs → Clear (r .fault) → Laid ws xs (r .layout)
-  formed-tables {xs} F D h = let k = formed-clear F h in laid ws xs k D (F .layout k)
 
 -- ---- places, in the code's terms
 

@@ -1,4 +1,4 @@
--- What holds of a network that refusals 1 to 10 do not refuse: every index of code that follows them is in range.
+-- What holds of a network that refusals 1 to 3 do not refuse: every index of code that follows them is in range.
 use mathlib.Core.Path.{_≡_, refl}
 use mathlib.Core.List.{List}
 use Prim.Native.Nat.{ℕ, zero, suc, _+_, _-_, _*_, _≤_, _<_}
@@ -8,10 +8,10 @@ use native.Mathlib.Omega.{arith}
 use lib.ListN.{length}
 use lib.Ieee.{Float}
 use borrow.Author.Tests.{eqb-true}
-use Rattle.base.proofs.Firsts.{Clear, or-left, or-right, unless-true}
+use Rattle.base.proofs.Firsts.{Clear, unless-true}
 use Rattle.base.specs.Loop.{loop}
 use Rattle.network.specs.Network.{buses, generators, branches, references, busOf, points, from, to, referred, busAt, generatorAt, branchAt, needed}
-use Rattle.network.specs.Fault.{faultWords, faultSize, faultCount, faultTables}
+use Rattle.network.specs.Fault.{faultWords, faultSize, faultCount}
 use Rattle.network.proofs.Places.{words-length, bus-of-generator, no-single-point, from-bus, to-bus, referred-bus, Limits, limits}
 
 -- ---- where a generator's numbers stand
@@ -110,10 +110,3 @@ module _ (ws : List ℕ) (xs : List Float) where
         generator-fits = λ g h. omega (arith, generator-fits ws g (generators ws) h);
         branch-fits = λ b h. omega arith;
       }
-
-  pub good : Clear (faultTables ws xs) → Good ws xs
-  unfolding faultTables
-  good h =
-      let h1 = or-right _ _ h in
-      let h2 = or-right _ _ h1 in
-      good-shape (or-left _ _ h) (or-left _ _ h1) (or-left _ _ h2)

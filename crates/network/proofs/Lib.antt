@@ -1,7 +1,4 @@
 pub mod Places
-pub mod Order
 pub mod Good
 pub mod Steps
 pub mod Form
-pub mod Right
-pub mod Required

@@ -3,16 +3,12 @@ use mathlib.Core.Path.{_≡_, refl}
 use mathlib.Core.Bool.{cond}
 use mathlib.Core.List.{List}
 use Prim.Native.Nat.{ℕ, suc, _+_, _*_, _≤_, _<_}
-use native.Mathlib.Omega.{arith}
 use lib.Dec.{eqb}
-use lib.Ieee.{Float}
 use lib.ListN.{getD}
-use Rattle.base.proofs.Firsts.{Proper, or-proper, unless-proper, first-proper}
 use Rattle.base.specs.Loop.{loop, tally}
 use Rattle.base.specs.Word.{kindOf}
 use Rattle.network.specs.Word.{generatorPoints}
 use Rattle.network.specs.Network.{kindBefore, buses, generators, branchPlace, generatorAt, branchAt}
-use Rattle.network.specs.Fault.{blanks, faultSquare, branchFault}
 use Rattle.network.proofs.Good.{generator-next, generator-fits}
 
 pub kind-next : (ws : List ℕ) (kind i : ℕ) → kindBefore ws kind (suc i) ≡ cond (eqb (kindOf (getD ws i 0)) kind) (suc (kindBefore ws kind i)) (kindBefore ws kind i)
@@ -34,13 +30,3 @@ branch-place ws n k b e f = rw (e, f)
 pub branch-start : (ws : List ℕ) (k start b : ℕ) → k ≡ generators ws → start ≡ generatorAt ws k → start + 11 * b ≡ branchAt ws b
 unfolding branchAt
 branch-start ws k start b e f = rw (f, e)
-
--- ---- a fault that is clear has place 0
-
-pub blanks-proper : (xs : List Float) (at count : ℕ) → Proper (blanks xs at count)
-unfolding blanks
-blanks-proper xs at count = first-proper count _ (λ j. unless-proper _ 4 _ (omega arith))
-
-pub branch-proper : (ws : List ℕ) (xs : List Float) (b : ℕ) → Proper (branchFault ws xs b)
-unfolding branchFault faultSquare
-branch-proper ws xs b = or-proper _ _ (or-proper _ _ (unless-proper _ 10 b (omega arith)))

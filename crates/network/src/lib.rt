@@ -1,24 +1,13 @@
-// The network file: its words and numbers, and refusals 1 to 10.
-mod blank;
-mod bounds;
-mod branches;
-mod curve;
+// The network file: its words and numbers, where they stand, and refusals 1 to 3.
 mod formed;
 mod layout;
 mod limits;
-mod ranges;
 mod records;
 mod sizes;
-mod tables;
 mod word;
 mod words;
 
 pub use base::Fault;
-pub use bounds::angle_right;
-pub use bounds::clamp_start;
-pub use bounds::finite_or;
-pub use bounds::positive_violation;
-pub use bounds::validate_bounds;
 pub use formed::Form;
 pub use formed::form_fault;
 pub use formed::form_of;
@@ -50,8 +39,6 @@ pub use records::generator_of;
 pub use records::reference_of;
 pub use sizes::Sizes;
 pub use sizes::sizes_of;
-pub use tables::tables_fault;
-pub use tables::tables_of;
 pub use word::branch_angled;
 pub use word::branch_from;
 pub use word::branch_limited;

@@ -14,7 +14,7 @@ use Rattle.float.specs.Doubles.{Doubles}
 use Rattle.nl.specs.Expr.{count}
 use Rattle.nl.specs.File.{modelWords, modelConstants, StandsFor}
 use Rattle.network.specs.Network.{columns}
-use Rattle.network.proofs.Good.{good}
+use Rattle.tables.proofs.Laid.{good}
 use Rattle.acopf.specs.Rows.{rows}
 use Rattle.acopf.specs.Model.{model, fileWords}
 use Rattle.acopf.specs.Factor.{constants64, networkFault}

@@ -9,7 +9,7 @@ use lib.ListN.{length, getD, take, drop}
 use Rattle.base.proofs.Loops.{tally-counts, tally-le}
 use Rattle.float.specs.Number.{_⊖_, _⊘_, absolute, maximum, zero64, one64}
 use Rattle.fdlibm.specs.Hypot.{hypotenuse}
-use Rattle.network.specs.Bounds.{huge64, positiveViolation}
+use Rattle.bounds.specs.Bounds.{huge64, positiveViolation}
 use Rattle.network.specs.Network.{buses, generators, branches, from, to, angled, curved, epigraphsBefore, columns, number, angleMin, angleMax, sMax}
 use Rattle.network.specs.Word.{branchLimited}
 use Rattle.network.specs.declared.layout.Layout.{Layout}

@@ -11,7 +11,7 @@ use lib.ListN.{length-append}
 use Rattle.base.specs.Loop.{loop, table}
 use Rattle.base.proofs.Loops.{length-table, Block, block-table, block-left, block-right}
 use Rattle.float.specs.Number.{maximum, zero64}
-use Rattle.network.specs.Bounds.{huge64, positiveViolation}
+use Rattle.bounds.specs.Bounds.{huge64, positiveViolation}
 use Rattle.network.specs.Network.{buses, generators, epigraphsBefore, columns, number}
 use Rattle.acopf.specs.Columns.{vmLower, vmUpper, pgLower, pgUpper, qgLower, qgUpper, columnLower, columnUpper}
 use Rattle.residuals.specs.Residuals.{largest, largestWhere, variableBounds}

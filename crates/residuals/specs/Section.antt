@@ -5,7 +5,7 @@ use mathlib.Core.List.{List}
 use lib.Ieee.{Float, neg}
 use Rattle.base.specs.Loop.{loop}
 use Rattle.float.specs.Number.{maximum}
-use Rattle.network.specs.Bounds.{huge64, positiveViolation}
+use Rattle.bounds.specs.Bounds.{huge64, positiveViolation}
 use Rattle.network.specs.Network.{capable, number, pMin, pMax, qMin, qMax}
 
 -- the largest of start and f 0 .. f (count - 1)

@@ -1,18 +1,18 @@
 // Residual 3, variable bounds: the columns by section, va, vm, pg, qg, epigraphs. Each section goes on from the largest before it.
+use bounds::positive_violation;
 use network::Bus;
 use network::Layout;
 use network::bus_of;
 use network::first_generator;
 use network::generator_of;
 use network::next_generator;
-use network::positive_violation;
 ghost use mathlib.Core.Path.{_≡_};
 ghost use mathlib.Core.Bool.{cond};
 ghost use Prim.Native.Nat.{_+_, _≤_};
 ghost use lib.Ieee.{neg};
 ghost use lib.ListN.{length};
 ghost use Rattle.float.specs.Number.{zero64};
-ghost use Rattle.network.specs.Bounds.{huge64, positiveViolation};
+ghost use Rattle.bounds.specs.Bounds.{huge64, positiveViolation};
 ghost use Rattle.acopf.specs.Columns.{vmLower, vmUpper};
 ghost use Rattle.derived.specs.Agree.{Ready};
 ghost use Rattle.residuals.specs.Residuals.{variableBounds};

@@ -15,7 +15,7 @@ ghost use lib.Ieee.{Float, lt};
 ghost use lib.ListN.{length};
 ghost use Rattle.float.specs.Number.{_⊖_, _⊘_, zero64, one64, absolute, maximum};
 ghost use Rattle.fdlibm.specs.Hypot.{hypotenuse};
-ghost use Rattle.network.specs.Bounds.{positiveViolation};
+ghost use Rattle.bounds.specs.Bounds.{positiveViolation};
 ghost use Rattle.network.specs.Limits.{pointNumbers, mostPoints};
 ghost use Rattle.network.specs.Network.{number};
 ghost use Rattle.network.specs.Word.{branchLimited};
@@ -64,7 +64,7 @@ fn angle_limit(point: &[f64], branch: Branch, most: f64) -> f64
         let from = branch.from;
         let to = branch.to;
         let angle = point[from] - point[to];
-        let outside = network::positive_violation(angle, branch.angle_min, branch.angle_max);
+        let outside = bounds::positive_violation(angle, branch.angle_min, branch.angle_max);
         return float::maximum(most, outside);
     }
     most

@@ -9,7 +9,7 @@ use lib.Ieee.{Float}
 use Rattle.base.specs.Loop.{loop, table, each, keep, tally}
 use Rattle.base.proofs.Loops.{Every, AllFrom, every-append, every-table, every-each, every-keep, every-cond, length-table, length-kept}
 use Rattle.float.specs.Number.{zero64}
-use Rattle.network.specs.Bounds.{huge64}
+use Rattle.bounds.specs.Bounds.{huge64}
 use Rattle.network.specs.Network.{buses, generators, branches, references, angled, branchAt, curved, segments, number}
 use Rattle.acopf.specs.Rows.{Row, balanceRow, pBalance, qBalance, referenceRow, angleRow, rated, thermalRows, segmentRow, segmentRows, rows, rowLower, rowUpper}
 use Rattle.factor.specs.NonFinite.{segmentsBefore}

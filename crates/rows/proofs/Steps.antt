@@ -10,10 +10,10 @@ use Rattle.base.specs.Loop.{loop, each, keep, tally}
 use Rattle.base.proofs.Loops.{tally-bit, tally-up}
 use Rattle.base.proofs.Firsts.{Clear}
 use Rattle.float.specs.Number.{zero64}
-use Rattle.network.specs.Fault.{faultTables}
+use Rattle.tables.specs.Fault.{faultTables}
 use Rattle.network.specs.Network.{buses, generators, branches, references, angled, generatorAt, branchAt, needed, number}
 use Rattle.network.specs.Word.{branchAngled}
-use Rattle.network.proofs.Good.{good}
+use Rattle.tables.proofs.Laid.{good}
 use Rattle.acopf.specs.Rows.{rows}
 use Rattle.factor.specs.NonFinite.{segmentsBefore}
 use Rattle.factor.proofs.Sizes.{ratings, count-rows}

@@ -12,7 +12,7 @@ ghost use mathlib.Core.List.{_++_};
 ghost use Prim.Native.Nat.{_+_, _*_, _≤_};
 ghost use lib.ListN.{length, drop};
 ghost use Rattle.base.specs.Loop.{tally};
-ghost use Rattle.network.specs.Fault.{faultTables};
+ghost use Rattle.tables.specs.Fault.{faultTables};
 ghost use Rattle.network.specs.Network.{buses, generators, branches, references, angled, generatorAt};
 ghost use Rattle.factor.specs.NonFinite.{segmentsBefore};
 ghost use Rattle.factor.proofs.Sizes.{spreads, ratings};

@@ -14,11 +14,13 @@ use Rattle.base.proofs.Loops.{tally-le}
 use Rattle.float.specs.Doubles.{Doubles}
 use Rattle.network.specs.Limits.{mostBuses, mostGenerators}
 use Rattle.network.specs.Network.{buses, branches, curved, epigraphsBefore, columns}
-use Rattle.network.specs.Fault.{faultWords, faultSize, faultTables}
+use Rattle.network.specs.Fault.{faultWords, faultSize}
+use Rattle.tables.specs.Fault.{faultTables}
 use Rattle.network.specs.declared.layout.Layout.{Layout}
 use Rattle.network.specs.Layout.{layoutOf, LaidWords, Laid}
-use Rattle.network.proofs.Form.{laid}
-use Rattle.network.proofs.Good.{Good, good}
+use Rattle.tables.proofs.Laid.{laid}
+use Rattle.network.proofs.Good.{Good}
+use Rattle.tables.proofs.Laid.{good}
 use Rattle.acopf.specs.Factor.{faultFactor, networkSections, networkFault, firstNonFinite}
 use Rattle.acopf.proofs.Order.{network-is, network-refusal}
 use Rattle.validate.specs.declared.Checked.{Checked}

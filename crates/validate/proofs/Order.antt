@@ -16,7 +16,7 @@ use Rattle.base.proofs.Order.{AllGive, gives-one, give-append, first-append, re
 use Rattle.acopf.specs.Factor.{firstNonFinite, networkSections, networkFault}
 use Rattle.acopf.proofs.Order.{non-finite-spans, non-finite-place, network-give}
 use Rattle.float.specs.Number.{isFinite}
-use Rattle.network.specs.Bounds.{angleRight}
+use Rattle.bounds.specs.Bounds.{angleRight}
 use Rattle.network.specs.Network.{buses, branches, columns, vaColumn}
 use Rattle.derived.specs.Outputs.{va, ownObjective, flows, outputs}
 use Rattle.derived.proofs.Outputs.{length-outputs}

@@ -10,7 +10,7 @@ use Rattle.base.specs.Fault.{fault, unless, orElse, first, Section, section, fi
 use Rattle.base.specs.Refusal.{SHORT, POINT, SWING, DERIVED, RESIDUAL}
 use Rattle.float.specs.Number.{zero64}
 use Rattle.network.specs.Network.{buses, branches, columns, vaColumn}
-use Rattle.network.specs.Bounds.{angleRight}
+use Rattle.bounds.specs.Bounds.{angleRight}
 use Rattle.acopf.specs.Factor.{firstNonFinite, networkSections, networkFault}
 use Rattle.validate.specs.declared.Checked.{Checked}
 use Rattle.derived.specs.Outputs.{va, flows, outputs, ownObjective}

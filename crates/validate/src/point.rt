@@ -60,7 +60,7 @@ pub(crate) fn swing_fault(point: &[f64], n: usize) -> Fault
 {
     let mut i = 0usize;
     while i < n {
-        if !network::angle_right(point[i]) {
+        if !bounds::angle_right(point[i]) {
             return Fault {
                 number: refusal::SWING,
                 place: i,

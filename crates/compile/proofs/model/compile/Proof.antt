@@ -4,8 +4,8 @@ use Rattle.acopf.specs.Model.{fileWords}
 use Rattle.acopf.specs.Rows.{rowLower, rowUpper}
 use Rattle.acopf.proofs.Counts.{lower-columns, upper-columns, start-columns, lower-rows, upper-rows}
 use Rattle.compile.proofs.Lent.{as-it-was, as-written, tables-right, suffices}
-use Rattle.network.proofs.Right.{words-clear, size-clear}
-use Rattle.network.proofs.Form.{laid}
+use Rattle.tables.proofs.Right.{words-clear, size-clear}
+use Rattle.tables.proofs.Laid.{laid}
 use borrow.Author.Needs.{needs}
 use Rattle.compile.proofs.model.compile.Statement.{statement}
 use Rattle.compile.proofs.model.compile.Tie as tie

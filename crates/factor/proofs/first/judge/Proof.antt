@@ -1,4 +1,4 @@
-use Rattle.network.proofs.Form.{formed-tables}
+use Rattle.tables.proofs.Laid.{formed-tables}
 use Rattle.factor.proofs.Refusal.{tables-clear, judged-tables, judged-factor, judged-clear}
 use borrow.Author.Needs.{needs}
 use Rattle.factor.proofs.first.judge.Statement.{statement}

@@ -3,7 +3,7 @@ use Prim.Native.Nat.{_-_, _≤_}
 use native.Mathlib.Omega.{arith}
 use lib.Ieee.{neg, ofBits}
 use borrow.Author.Needs.{needs}
-use Rattle.network.specs.Bounds.{huge64}
+use Rattle.bounds.specs.Bounds.{huge64}
 use Rattle.residuals.specs.Section.{outside, largestWith}
 use Rattle.residuals.proofs.Section.{with-none, with-next}
 use Rattle.residuals.proofs.bounds.free_bounds.Statement.{statement}

@@ -8,7 +8,7 @@ use borrow.Author.Needs.{needs}
 use Rattle.base.proofs.Firsts.{Clear, unless-proper}
 use Rattle.base.proofs.Turns.{first-none, test-more, test-here, first-done}
 use Rattle.base.specs.Fault.{fault, unless, first}
-use Rattle.network.specs.Bounds.{angleRight}
+use Rattle.bounds.specs.Bounds.{angleRight}
 use Rattle.validate.specs.Check.{faultSwing}
 use Rattle.validate.proofs.point.swing_fault.Statement.{statement}
 use Rattle.validate.proofs.point.swing_fault.Tie as tie

@@ -1,0 +1,5 @@
+pub mod Steps
+pub mod Laid
+pub mod Order
+pub mod Right
+pub mod Required
