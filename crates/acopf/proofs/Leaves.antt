@@ -12,8 +12,8 @@ use Rattle.float.specs.Number.{_⊕_, _⊗_, maximum}
 use Rattle.network.specs.Network.{branchAt}
 use Rattle.acopf.specs.Curve.{slope, intercept, slopes, intercepts, evaluate}
 use Rattle.acopf.specs.Flow.{branchCoefficients}
-use Rattle.acopf.specs.Leaf.{rowCoefficients, coefficientsAt}
-use Rattle.acopf.specs.Prepared.{Prepared}
+use Rattle.acopf.specs.contracts.Leaf.{rowCoefficients, coefficientsAt}
+use Rattle.acopf.specs.contracts.Prepared.{Prepared}
 
 -- ---- a branch
 

@@ -6,6 +6,5 @@ pub mod Parts
 pub mod Rows
 pub mod Model
 pub mod Factor
-pub mod Leaf
-pub mod Prepared
 pub mod Tallies
+pub mod contracts

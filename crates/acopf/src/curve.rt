@@ -6,7 +6,7 @@ ghost use Prim.Native.Nat.{ℕ, _+_, _-_, _*_, _≤_};
 ghost use lib.ListN.{length};
 ghost use lib.Ieee.{Float};
 ghost use Rattle.acopf.specs.Curve.{slope, intercept, evaluate};
-ghost use Rattle.acopf.specs.Prepared.{Prepared};
+ghost use Rattle.acopf.specs.contracts.Prepared.{Prepared};
 
 // The tables' first `count` entries are the segments'.
 pub struct PiecewiseCost {

@@ -12,7 +12,7 @@ ghost use mathlib.Core.Path.{_≡_};
 ghost use Prim.Native.Nat.{_+_, _≤_};
 ghost use lib.ListN.{length};
 ghost use Rattle.acopf.specs.Flow.{flowAt, selfFrom, transferFrom, selfTo, transferTo, flowOf};
-ghost use Rattle.acopf.specs.Leaf.{branchRow, rowCoefficients, coefficientsAt};
+ghost use Rattle.acopf.specs.contracts.Leaf.{branchRow, rowCoefficients, coefficientsAt};
 
 // The branch's numbers, from g to s_max.
 pub fn branch_row(numbers: &[f64], at: usize) -> [f64; 11]

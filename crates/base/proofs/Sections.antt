@@ -11,7 +11,7 @@ use lib.ListN.{length, length-append, drop, take, set, getD, replicate, replicat
 use lib.Seq.{take-suc, take-length, sets, sets-eq}
 use borrow.Author.Tests.{eqb-true, eqb-false}
 use Rattle.base.specs.Loop.{loop, table, each}
-use Rattle.base.specs.Section.{Wrote}
+use Rattle.base.specs.contracts.Section.{Wrote}
 
 module _ {A : Type 0} where
   sets-sets : (u v l : List A) (i : ℕ) → sets (sets l i u) (i + length u) v ≡ sets l i (u ++ v)

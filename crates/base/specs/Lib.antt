@@ -2,5 +2,5 @@ pub mod Loop
 pub mod Word
 pub mod Fault
 pub mod Refusal
-pub mod Section
 pub mod Order
+pub mod contracts

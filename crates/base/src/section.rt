@@ -4,7 +4,7 @@ ghost use mathlib.Core.Bool.{cond};
 ghost use Prim.Native.Nat.{_+_, _≤_};
 ghost use lib.ListN.{length, replicate};
 ghost use Rattle.base.specs.Loop.{keep};
-ghost use Rattle.base.specs.Section.{Wrote};
+ghost use Rattle.base.specs.contracts.Section.{Wrote};
 
 // The value, `count` times.
 pub fn fill(out: &mut [f64], to: usize, count: usize, value: f64) -> usize

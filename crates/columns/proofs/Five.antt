@@ -17,8 +17,8 @@ use Rattle.acopf.proofs.Counts.{lower-columns, upper-columns, start-columns}
 use Rattle.factor.proofs.Steps.{room}
 use Rattle.columns.specs.declared.ColumnList.{ColumnList}
 use Rattle.columns.specs.declared.ColumnList.the-variants.{Lower, Upper, Start}
-use Rattle.base.specs.Section.{Wrote}
-use Rattle.columns.specs.Value.{columnValue, vaValue, vmValue, generatorValue, epigraphValue}
+use Rattle.base.specs.contracts.Section.{Wrote}
+use Rattle.columns.specs.contracts.Value.{columnValue, vaValue, vmValue, generatorValue, epigraphValue}
 use Rattle.base.proofs.Sections.{then, wrote-front, table-value}
 
 -- ---- room

@@ -15,7 +15,7 @@ use Rattle.network.specs.Word.{generatorPoints, generatorBounded}
 use Rattle.acopf.specs.Columns.{pgLower, pgUpper, pgStart, epigraphStart}
 use Rattle.acopf.specs.Curve.{evaluate}
 use Rattle.factor.proofs.Steps.{curved-is}
-use Rattle.columns.specs.Value.{epigraphValue}
+use Rattle.columns.specs.contracts.Value.{epigraphValue}
 use Rattle.base.proofs.Sections.{each-fits}
 
 module _ (ws : List ℕ) (xs : List Float) where

@@ -1,1 +1,1 @@
-pub mod Value
+pub mod contracts

@@ -10,8 +10,8 @@ ghost use lib.ListN.{length};
 ghost use Rattle.base.specs.Loop.{table, each};
 ghost use Rattle.tables.specs.Fault.{faultTables};
 ghost use Rattle.network.specs.Network.{buses, generators, costs, epigraphsBefore};
-ghost use Rattle.base.specs.Section.{Wrote};
-ghost use Rattle.columns.specs.Value.{vaValue, vmValue, generatorValue, epigraphValue};
+ghost use Rattle.base.specs.contracts.Section.{Wrote};
+ghost use Rattle.columns.specs.contracts.Value.{vaValue, vmValue, generatorValue, epigraphValue};
 
 // A start of va is not clamped.
 pub(crate) fn va_starts(numbers: &[f64], n: usize, out: &mut [f64], to: usize) -> usize

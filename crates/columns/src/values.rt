@@ -8,7 +8,7 @@ ghost use lib.ListN.{length};
 ghost use Rattle.bounds.specs.Bounds.{huge64};
 ghost use Rattle.network.specs.Network.{number};
 ghost use Rattle.acopf.specs.Columns.{vmLower, vmUpper};
-ghost use Rattle.columns.specs.Value.{columnValue};
+ghost use Rattle.columns.specs.contracts.Value.{columnValue};
 
 // The table's bounds of bus i's vm where its word has them active, else 0 and 1e19.
 pub fn vm_lower(words: &[u32], numbers: &[f64], i: usize) -> f64

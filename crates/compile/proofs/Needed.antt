@@ -26,7 +26,7 @@ use Rattle.factor.proofs.Sizes.{spreads, objectiveConstants, objectiveWords, co
 use Rattle.compile.specs.declared.Compiled.{Compiled}
 use Rattle.compile.specs.declared.decide.Tallies.{Tallies}
 use Rattle.compile.specs.Compile.{accepted}
-use Rattle.compile.specs.Tallies.{Tallied, Few}
+use Rattle.compile.specs.contracts.Tallies.{Tallied, Few}
 
 -- ---- what the network has
 

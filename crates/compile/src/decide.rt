@@ -23,7 +23,7 @@ ghost use Rattle.base.specs.Refusal.{SHORT};
 ghost use Rattle.tables.specs.Fault.{faultTables};
 ghost use Rattle.network.specs.Network.{buses, generators, branches, references, costs};
 ghost use Rattle.compile.specs.Compile.{refused, accepted, sized, compiled};
-ghost use Rattle.compile.specs.Tallies.{Tallied, Few};
+ghost use Rattle.compile.specs.contracts.Tallies.{Tallied, Few};
 
 // A refusal's answer has counts of 0.
 fn refused(f: Fault) -> Compiled

@@ -18,7 +18,7 @@ use Rattle.compile.proofs.Counts.{counted, compiled-exactly, fronts}
 use Rattle.io.specs.Counts.{Counts}
 use Rattle.depot_text.specs.Input.{formed, inputWords, inputNumbers}
 use Rattle.depot_text.specs.Text.{hexLine, hexLines, decimalWithin, inputLine, refusedLine, lent, networkText, output, textAfter, textLength}
-use Rattle.base.specs.Section.{Wrote}
+use Rattle.base.specs.contracts.Section.{Wrote}
 use Rattle.depot_text.proofs.Writes.{wrote-ends, wrote-length}
 use Rattle.base.proofs.Sections.{wrote-front}
 

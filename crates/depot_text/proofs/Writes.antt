@@ -7,7 +7,7 @@ use native.Mathlib.Numerals.{add-one}
 use lib.ListN.{length, drop, take, set}
 use lib.Seq.{take-at, length-sets}
 use Rattle.base.specs.Loop.{loop, table, each}
-use Rattle.base.specs.Section.{Wrote}
+use Rattle.base.specs.contracts.Section.{Wrote}
 use Rattle.base.proofs.Sections.{wrote-none, wrote-one, then, wrote-front}
 
 module _ {A : Type 0} where

@@ -13,7 +13,7 @@ ghost use lib.ListN.{length};
 ghost use Rattle.io.specs.Counts.{Counts};
 ghost use Rattle.compile.specs.Compile.{compiled, wordsAfter};
 ghost use Rattle.depot_text.specs.Text.{lent, networkText, output, textAfter, textLength};
-ghost use Rattle.base.specs.Section.{Wrote};
+ghost use Rattle.base.specs.contracts.Section.{Wrote};
 
 // compile with lists of 512 each, of which the words are the caller's.
 fn compile_words(words: &[u32], numbers: &[f64], model_words: &mut [u32]) -> Compiled

@@ -4,7 +4,7 @@ ghost use mathlib.Core.List.{[], _∷_};
 ghost use Prim.Native.Nat.{_+_, _*_, _%_, _≤_, _<_};
 ghost use lib.ListN.{length, take};
 ghost use Rattle.depot_text.specs.Text.{hexDigit, hexLine, hexLines, decimal, refusedLine};
-ghost use Rattle.base.specs.Section.{Wrote};
+ghost use Rattle.base.specs.contracts.Section.{Wrote};
 
 pub(crate) fn put(text: &mut [u8], at: usize, part: &[u8]) -> usize
     requires { ⌜ at + length (now part) ≤ length (now text) ⌝ }

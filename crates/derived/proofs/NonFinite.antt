@@ -16,7 +16,7 @@ use Rattle.base.specs.Loop.{loop}
 use Rattle.base.proofs.Firsts.{Proper, unless-proper, first-proper}
 use Rattle.float.specs.Number.{isFinite}
 use Rattle.acopf.specs.Factor.{firstNonFinite}
-use Rattle.derived.specs.Scratch.{nonFiniteFrom}
+use Rattle.derived.specs.contracts.Scratch.{nonFiniteFrom}
 
 or-clear-right : (f : Fault) → Proper f → orElse f clear ≡ f
 unfolding orElse

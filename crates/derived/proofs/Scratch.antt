@@ -18,9 +18,9 @@ use Rattle.base.proofs.Loops.{getD-table}
 use Rattle.float.specs.Number.{_⊕_, _⊖_}
 use Rattle.network.specs.Network.{buses, generators, branches, busOf, from, to}
 use Rattle.acopf.specs.Flow.{flow}
-use Rattle.derived.specs.Agree.{At, PerBus, Kept}
+use Rattle.derived.specs.contracts.Agree.{At, PerBus, Kept}
 use Rattle.derived.specs.Outputs.{flows, injected, withdrawn, pInjection, qInjection, pFrom, qFrom, pTo, qTo, outputs}
-use Rattle.derived.specs.Scratch.{FlowsAre}
+use Rattle.derived.specs.contracts.Scratch.{FlowsAre}
 
 -- ---- a list with f i at `place i`
 

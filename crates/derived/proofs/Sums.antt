@@ -14,7 +14,7 @@ use Rattle.network.specs.declared.layout.Layout.{Layout}
 use Rattle.network.specs.declared.records.Generator.{Generator}
 use Rattle.network.specs.Layout.{Laid, GeneratorRead}
 use Rattle.acopf.specs.Curve.{evaluate}
-use Rattle.derived.specs.Agree.{Ready}
+use Rattle.derived.specs.contracts.Agree.{Ready}
 use Rattle.derived.specs.Outputs.{cost, ownObjective}
 
 pub ready : {ws : List ℕ} {xs x : List Float} {l : Layout} → Laid ws xs l → length x ≡ columns ws → Ready ws xs x l

@@ -12,9 +12,9 @@ use Rattle.network.specs.declared.records.Generator.{Generator}
 use Rattle.network.specs.declared.records.Branch.{Branch}
 use Rattle.network.specs.Layout.{busRecord, Laid, GeneratorRead, BranchRead}
 use Rattle.acopf.specs.Flow.{re, im, polar, voltage, flowOf, flow}
-use Rattle.derived.specs.Agree.{PerBus}
+use Rattle.derived.specs.contracts.Agree.{PerBus}
 use Rattle.derived.specs.Outputs.{pg, qg, pFrom, qFrom, pTo, qTo}
-use Rattle.derived.specs.Scratch.{VoltagesAre, pDemand, qDemand, FlowsAre}
+use Rattle.derived.specs.contracts.Scratch.{VoltagesAre, pDemand, qDemand, FlowsAre}
 use Rattle.derived.proofs.Scratch.{moreAt, lessAt, Injected, injected-next, Withdrawn, withdrawn-next}
 
 pub voltages-are : (ws : List ℕ) (x : List Float) (n i : ℕ) (l : List Float) → n ≡ buses ws → i ≡ n

@@ -1,3 +1,2 @@
 pub mod Outputs
-pub mod Agree
-pub mod Scratch
+pub mod contracts

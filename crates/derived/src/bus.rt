@@ -14,9 +14,9 @@ ghost use lib.ListN.{length};
 ghost use Rattle.network.specs.Limits.{mostBuses};
 ghost use Rattle.network.specs.Network.{buses};
 ghost use Rattle.network.specs.Layout.{Laid};
-ghost use Rattle.derived.specs.Agree.{Ready, PerBus, Kept};
+ghost use Rattle.derived.specs.contracts.Agree.{Ready, PerBus, Kept};
 ghost use Rattle.derived.specs.Outputs.{pg, qg, injected, withdrawn, pFrom, qFrom, pTo, qTo};
-ghost use Rattle.derived.specs.Scratch.{VoltagesAre, pDemand, qDemand, InjectionsAre, FlowsAre};
+ghost use Rattle.derived.specs.contracts.Scratch.{VoltagesAre, pDemand, qDemand, InjectionsAre, FlowsAre};
 
 // The real part, then the imaginary part.
 pub fn voltages(point: &[f64], layout: Layout, list: &mut [f64])

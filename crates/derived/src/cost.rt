@@ -11,7 +11,7 @@ ghost use lib.ListN.{length};
 ghost use Rattle.float.specs.Number.{_⊕_, _⊗_, half64};
 ghost use Rattle.network.specs.Limits.{pointNumbers, mostPoints};
 ghost use Rattle.acopf.specs.Curve.{evaluate};
-ghost use Rattle.derived.specs.Agree.{Ready};
+ghost use Rattle.derived.specs.contracts.Agree.{Ready};
 ghost use Rattle.derived.specs.Outputs.{ownObjective};
 
 // What the generator costs at the power p.

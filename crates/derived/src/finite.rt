@@ -7,7 +7,7 @@ ghost use Prim.Native.Nat.{_+_, _<_, _≤_};
 ghost use lib.ListN.{length, take};
 ghost use Rattle.base.specs.Refusal.{DERIVED};
 ghost use Rattle.acopf.specs.Factor.{firstNonFinite};
-ghost use Rattle.derived.specs.Scratch.{mostOutputs, nonFiniteFrom};
+ghost use Rattle.derived.specs.contracts.Scratch.{mostOutputs, nonFiniteFrom};
 
 // The first of the list's first `count` numbers that is not finite; its place is counted from `from` on.
 pub fn first_non_finite(list: &[f64], count: usize, number: u32, from: usize) -> Fault

@@ -10,7 +10,7 @@ ghost use lib.ListN.{length};
 ghost use Rattle.network.specs.Layout.{Laid};
 ghost use Rattle.acopf.specs.Flow.{flow};
 ghost use Rattle.derived.specs.Outputs.{flows};
-ghost use Rattle.derived.specs.Scratch.{VoltagesAre, FlowsAre};
+ghost use Rattle.derived.specs.contracts.Scratch.{VoltagesAre, FlowsAre};
 
 // The flows of branch b, whichever point the voltages are of.
 fn flow_of(words: &[u32], numbers: &[f64], layout: Layout, voltages: &[f64], b: usize) -> [f64; 4]

@@ -17,14 +17,14 @@ use Rattle.network.specs.Layout.{LaidWords, Laid, generatorRecord, branchRecord
 use Rattle.network.specs.Network.{branchAt, epigraphsBefore}
 use Rattle.network.specs.Word.{branchFrom, branchTo, branchAngled, referenceBus}
 use Rattle.acopf.specs.Build.{subtract}
-use Rattle.acopf.specs.Leaf.{coefficientsAt}
+use Rattle.acopf.specs.contracts.Leaf.{coefficientsAt}
 use Rattle.acopf.specs.Model.{costTerm}
 use Rattle.acopf.specs.Parts.{branchParts}
 use Rattle.acopf.proofs.Leaves.{coefficients-at}
-use Rattle.emit.specs.Tokens.{partTokens}
-use Rattle.emit.specs.Parts.{allParts}
-use Rattle.emit.specs.Rows.{referenceTokens, angleTokens, thermalPair, thermalTokens, segmentTokens, curveTokens}
-use Rattle.emit.specs.Objective.{costOf}
+use Rattle.emit.specs.contracts.Tokens.{partTokens}
+use Rattle.emit.specs.contracts.Parts.{allParts}
+use Rattle.emit.specs.contracts.Rows.{referenceTokens, angleTokens, thermalPair, thermalTokens, segmentTokens, curveTokens}
+use Rattle.emit.specs.contracts.Objective.{costOf}
 
 -- ---- what the words say
 

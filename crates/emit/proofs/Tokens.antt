@@ -18,8 +18,8 @@ use Rattle.nl.specs.Expr.{Expr, Terms, none, more, constant, column, shared, ov
 use Rattle.nl.specs.File.{partWords}
 use Rattle.acopf.specs.Build.{terms}
 use Rattle.emit.specs.declared.writer.Writer.{Writer}
-use Rattle.base.specs.Section.{Wrote}
-use Rattle.emit.specs.Tokens.{Token, fixed, numbered, begins, wordsFrom, numbersOf, begun, tokens, tokensOf, listTokens, partTokens, throughBits, Written, Room}
+use Rattle.base.specs.contracts.Section.{Wrote}
+use Rattle.emit.specs.contracts.Tokens.{Token, fixed, numbered, begins, wordsFrom, numbersOf, begun, tokens, tokensOf, listTokens, partTokens, throughBits, Written, Room}
 use Rattle.base.proofs.Sections.{then, wrote-none}
 
 -- ---- tokens of a list

@@ -20,9 +20,9 @@ ghost use mathlib.Core.List.{[], _∷_};
 ghost use Prim.Native.Nat.{ℕ, _+_, _*_, _<_, _≤_};
 ghost use lib.ListN.{length};
 ghost use Rattle.base.specs.Loop.{each};
-ghost use Rattle.emit.specs.Tokens.{Written, Room, partTokens};
+ghost use Rattle.emit.specs.contracts.Tokens.{Written, Room, partTokens};
 ghost use Rattle.network.specs.Layout.{Laid};
-ghost use Rattle.emit.specs.Rows.{segmentOf, segmentTokens, curveTokens};
+ghost use Rattle.emit.specs.contracts.Rows.{segmentOf, segmentTokens, curveTokens};
 
 // The epigraph column, less slope times pg plus intercept.
 fn segment_row(

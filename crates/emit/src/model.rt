@@ -15,9 +15,9 @@ ghost use lib.ListN.{length, drop};
 ghost use Rattle.tables.specs.Fault.{faultTables};
 ghost use Rattle.acopf.specs.Factor.{constants64};
 ghost use Rattle.acopf.specs.Model.{fileWords};
-ghost use Rattle.emit.specs.Tokens.{Written, Room};
+ghost use Rattle.emit.specs.contracts.Tokens.{Written, Room};
 ghost use Rattle.network.specs.Layout.{Laid};
-ghost use Rattle.emit.specs.Whole.{busRows, branchRows, rowTokens};
+ghost use Rattle.emit.specs.contracts.Whole.{busRows, branchRows, rowTokens};
 
 // p balances, q balances, references.
 fn bus_rows(

@@ -22,9 +22,9 @@ ghost use Rattle.base.specs.Loop.{each};
 ghost use Rattle.base.specs.Word.{word};
 ghost use Rattle.float.specs.Number.{_⊗_, half64};
 ghost use Rattle.nl.specs.Expr.{column};
-ghost use Rattle.emit.specs.Tokens.{fixed, Written, Room, listTokens};
+ghost use Rattle.emit.specs.contracts.Tokens.{fixed, Written, Room, listTokens};
 ghost use Rattle.network.specs.Layout.{Laid};
-ghost use Rattle.emit.specs.Objective.{costOf, costTokens, sumHead, costCount, objectiveTokens};
+ghost use Rattle.emit.specs.contracts.Objective.{costOf, costTokens, sumHead, costCount, objectiveTokens};
 
 // The beginning of a sum of so many terms: none is a constant 0, one is its term.
 fn objective_head(terms: usize, file: &mut [u32], constants: &mut [f64], writer: Writer) -> Writer

@@ -23,9 +23,9 @@ ghost use Rattle.base.specs.Loop.{each};
 ghost use Rattle.nl.specs.Expr.{column};
 ghost use Rattle.acopf.specs.Build.{square};
 ghost use Rattle.acopf.specs.Parts.{branchParts};
-ghost use Rattle.emit.specs.Tokens.{Written, Room, partTokens};
+ghost use Rattle.emit.specs.contracts.Tokens.{Written, Room, partTokens};
 ghost use Rattle.network.specs.Layout.{Laid};
-ghost use Rattle.emit.specs.Parts.{angleParts, productParts, voltageParts, flowSum, flowParts, allParts, sharedTokens};
+ghost use Rattle.emit.specs.contracts.Parts.{angleParts, productParts, voltageParts, flowSum, flowParts, allParts, sharedTokens};
 
 fn square_part(vm: usize, file: &mut [u32], constants: &mut [f64], writer: Writer) -> Writer
     requires { ⌜ (vm < 4096)

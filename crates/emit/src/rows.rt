@@ -21,8 +21,8 @@ ghost use Rattle.base.specs.Loop.{each, keep};
 ghost use Rattle.nl.specs.Expr.{column};
 ghost use Rattle.network.specs.Layout.{LaidWords, Laid};
 ghost use Rattle.acopf.specs.Build.{subtract};
-ghost use Rattle.emit.specs.Tokens.{Written, Room, partTokens};
-ghost use Rattle.emit.specs.Rows.{referenceTokens, angleTokens, thermalOf, thermalPair, thermalTokens};
+ghost use Rattle.emit.specs.contracts.Tokens.{Written, Room, partTokens};
+ghost use Rattle.emit.specs.contracts.Rows.{referenceTokens, angleTokens, thermalOf, thermalPair, thermalTokens};
 
 fn reference_row(va: usize, file: &mut [u32], constants: &mut [f64], writer: Writer) -> Writer
     requires { ⌜ (va < 4096)

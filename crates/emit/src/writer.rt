@@ -3,8 +3,8 @@
 ghost use mathlib.Core.List.{map};
 ghost use Prim.Native.Nat.{_+_, _≤_};
 ghost use lib.ListN.{length};
-ghost use Rattle.base.specs.Section.{Wrote};
-ghost use Rattle.emit.specs.Tokens.{Put, throughBits};
+ghost use Rattle.base.specs.contracts.Section.{Wrote};
+ghost use Rattle.emit.specs.contracts.Tokens.{Put, throughBits};
 
 pub struct Writer {
     pub word: usize,

@@ -26,7 +26,7 @@ use Rattle.network.specs.Layout.{Laid, GeneratorRead}
 use Rattle.acopf.specs.Columns.{pgLower, pgUpper, pgStart, epigraphStart}
 use Rattle.acopf.specs.Curve.{evaluate}
 use Rattle.acopf.specs.Flow.{branchCoefficients}
-use Rattle.acopf.specs.Leaf.{coefficientsAt}
+use Rattle.acopf.specs.contracts.Leaf.{coefficientsAt}
 use Rattle.acopf.proofs.Leaves.{coefficients-at}
 use Rattle.factor.specs.NonFinite.{coefficientsFault, curveFault, rowSegments, segmentsBefore}
 use Rattle.acopf.specs.Rows.{rated}

@@ -26,7 +26,7 @@ use Rattle.rounding.proofs.Products.{mul-finite}
 use Rattle.rounding.proofs.Near.{Near, chain, near-add, near-then, near-scale}
 use Rattle.rounding.proofs.Counts.{Sum, Times, add-like, mul-near}
 use Rattle.hypot_error.specs.Exact.{exactSquare}
-use Rattle.hypot_error.specs.Quick.{nearly64, floor64, ceiling64, farBelow}
+use Rattle.hypot_error.specs.contracts.Quick.{nearly64, floor64, ceiling64, farBelow}
 use Rattle.hypot_error.proofs.Hypotenuse.{hypot-near, loose}
 use Rattle.hypot_error.proofs.Within.{plus-units}
 use Rattle.hypot_error.proofs.Finite.{hypot-finite}

@@ -14,7 +14,7 @@ use Rattle.float.proofs.Values.{sub-at}
 use Rattle.fdlibm.specs.Hypot.{hypotenuse}
 use Rattle.rounding.specs.Units.{size}
 use Rattle.rounding.proofs.Overflow.{sub-more}
-use Rattle.hypot_error.specs.Quick.{farBelow}
+use Rattle.hypot_error.specs.contracts.Quick.{farBelow}
 use Rattle.hypot_error.proofs.Quick.{AtMost, quick-at-most}
 
 -- ---- maxima with +0

@@ -21,13 +21,13 @@ use Rattle.network.proofs.Form.{branch-word}
 use Rattle.acopf.specs.Columns.{vmLower, vmUpper}
 use Rattle.acopf.specs.Curve.{evaluate, curveValue}
 use Rattle.acopf.specs.Rows.{rated}
-use Rattle.derived.specs.Agree.{PerBus, Ready}
+use Rattle.derived.specs.contracts.Agree.{PerBus, Ready}
 use Rattle.derived.specs.Outputs.{va, pg, epigraph, ownObjective, withdrawn, pInjection, qInjection, pFrom, qFrom, pTo, qTo, flows}
-use Rattle.derived.specs.Scratch.{FlowsAre, Held}
+use Rattle.derived.specs.contracts.Scratch.{FlowsAre, Held}
 use Rattle.derived.proofs.Scratch.{per-bus-copied}
 use Rattle.residuals.specs.Residuals.{largest, largestWhere, pBalance, qBalance, activeBalance, reactiveBalance, variableBounds, referenceAngles, angleLimits, thermalLimits, epigraphs, objectiveDifference, residuals}
-use Rattle.residuals.specs.Section.{generatorLower, generatorUpper}
-use Rattle.residuals.specs.Derived.{Balanced}
+use Rattle.residuals.specs.contracts.Section.{generatorLower, generatorUpper}
+use Rattle.residuals.specs.contracts.Derived.{Balanced}
 use Rattle.residuals.proofs.Section.{where-next, where-same}
 
 pub point-length : {ws : List ℕ} {xs x : List Float} {l : Layout} → Ready ws xs x l

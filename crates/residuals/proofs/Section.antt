@@ -15,7 +15,7 @@ use Rattle.bounds.specs.Bounds.{huge64, positiveViolation}
 use Rattle.network.specs.Network.{buses, generators, epigraphsBefore, columns, number}
 use Rattle.acopf.specs.Columns.{vmLower, vmUpper, pgLower, pgUpper, qgLower, qgUpper, columnLower, columnUpper}
 use Rattle.residuals.specs.Residuals.{largest, largestWhere, variableBounds}
-use Rattle.residuals.specs.Section.{largestWith, outside, generatorLower, generatorUpper}
+use Rattle.residuals.specs.contracts.Section.{largestWith, outside, generatorLower, generatorUpper}
 
 -- ---- a largest so far
 

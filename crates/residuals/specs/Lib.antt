@@ -1,3 +1,2 @@
 pub mod Residuals
-pub mod Section
-pub mod Derived
+pub mod contracts

@@ -14,9 +14,9 @@ ghost use lib.ListN.{length};
 ghost use Rattle.float.specs.Number.{zero64};
 ghost use Rattle.bounds.specs.Bounds.{huge64, positiveViolation};
 ghost use Rattle.acopf.specs.Columns.{vmLower, vmUpper};
-ghost use Rattle.derived.specs.Agree.{Ready};
+ghost use Rattle.derived.specs.contracts.Agree.{Ready};
 ghost use Rattle.residuals.specs.Residuals.{variableBounds};
-ghost use Rattle.residuals.specs.Section.{largestWith, outside, generatorLower, generatorUpper};
+ghost use Rattle.residuals.specs.contracts.Section.{largestWith, outside, generatorLower, generatorUpper};
 
 // Columns with no bounds but -1e19 to 1e19, from column `from` on.
 fn free_bounds(point: &[f64], from: usize, count: usize, start: f64) -> f64

@@ -11,10 +11,10 @@ use derived::balances;
 use derived::copy_front;
 use network::Layout;
 ghost use mathlib.Core.Path.{_≡_};
-ghost use Rattle.derived.specs.Agree.{Ready};
+ghost use Rattle.derived.specs.contracts.Agree.{Ready};
 ghost use Rattle.derived.specs.Outputs.{flows};
-ghost use Rattle.derived.specs.Scratch.{Held};
-ghost use Rattle.residuals.specs.Derived.{Balanced};
+ghost use Rattle.derived.specs.contracts.Scratch.{Held};
+ghost use Rattle.residuals.specs.contracts.Derived.{Balanced};
 ghost use Rattle.residuals.specs.Residuals.{residuals};
 
 // `scratch` holds the outputs, `balance` the balances.

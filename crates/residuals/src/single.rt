@@ -21,8 +21,8 @@ ghost use Rattle.network.specs.Network.{number};
 ghost use Rattle.network.specs.Word.{branchLimited};
 ghost use Rattle.network.specs.Layout.{LaidWords, Laid};
 ghost use Rattle.acopf.specs.Curve.{evaluate};
-ghost use Rattle.derived.specs.Agree.{At, Ready};
-ghost use Rattle.derived.specs.Scratch.{FlowsAre};
+ghost use Rattle.derived.specs.contracts.Agree.{At, Ready};
+ghost use Rattle.derived.specs.contracts.Scratch.{FlowsAre};
 ghost use Rattle.residuals.specs.Residuals.{largest, referenceAngles, angleLimits, thermalLimits, epigraphs};
 
 // 1 active and 2 reactive balance: of n buses, from place `from` on.

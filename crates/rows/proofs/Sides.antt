@@ -14,7 +14,7 @@ use Rattle.network.specs.Network.{buses, generators, branches, references, angl
 use Rattle.acopf.specs.Rows.{Row, balanceRow, pBalance, qBalance, referenceRow, angleRow, rated, thermalRows, segmentRow, segmentRows, rows, rowLower, rowUpper}
 use Rattle.factor.specs.NonFinite.{segmentsBefore}
 use Rattle.factor.proofs.Sizes.{ratings, count-rows}
-use Rattle.rows.specs.Bounds.{angleBounds, rowBounds}
+use Rattle.rows.specs.contracts.Bounds.{angleBounds, rowBounds}
 
 -- ---- mapped lists
 

@@ -18,8 +18,8 @@ use Rattle.acopf.specs.Rows.{rows}
 use Rattle.factor.specs.NonFinite.{segmentsBefore}
 use Rattle.factor.proofs.Sizes.{ratings, count-rows}
 use Rattle.factor.proofs.Steps.{tally-next}
-use Rattle.base.specs.Section.{Wrote}
-use Rattle.rows.specs.Bounds.{angleBounds, rowBounds}
+use Rattle.base.specs.contracts.Section.{Wrote}
+use Rattle.rows.specs.contracts.Bounds.{angleBounds, rowBounds}
 use Rattle.base.proofs.Sections.{wrote-none, each-next, wrote-front, then}
 use Rattle.rows.proofs.Sides.{length-angles, length-bounds}
 

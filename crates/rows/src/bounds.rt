@@ -17,8 +17,8 @@ ghost use Rattle.network.specs.Network.{buses, generators, branches, references
 ghost use Rattle.factor.specs.NonFinite.{segmentsBefore};
 ghost use Rattle.factor.proofs.Sizes.{spreads, ratings};
 ghost use Rattle.acopf.specs.Rows.{rows, rowLower, rowUpper};
-ghost use Rattle.base.specs.Section.{Wrote};
-ghost use Rattle.rows.specs.Bounds.{angleBounds, rowBounds};
+ghost use Rattle.base.specs.contracts.Section.{Wrote};
+ghost use Rattle.rows.specs.contracts.Bounds.{angleBounds, rowBounds};
 
 // How many of m branches have an active angle bound.
 pub fn angle_count(words: &[u32], n: usize, k: usize, m: usize) -> usize

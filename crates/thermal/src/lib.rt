@@ -2,7 +2,7 @@
 ghost use mathlib.Core.Path.{_≡_};
 ghost use Rattle.float.specs.Number.{_⊖_, zero64, maximum};
 ghost use Rattle.fdlibm.specs.Hypot.{hypotenuse};
-ghost use Rattle.hypot_error.specs.Quick.{farBelow};
+ghost use Rattle.hypot_error.specs.contracts.Quick.{farBelow};
 
 // 1 - 2^-40, 2^-960 and 2^960.
 const QUICK: [f64; 3] = [

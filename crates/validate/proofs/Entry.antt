@@ -25,13 +25,13 @@ use Rattle.acopf.specs.Factor.{faultFactor, networkSections, networkFault, firs
 use Rattle.acopf.proofs.Order.{network-is, network-refusal}
 use Rattle.validate.specs.declared.Checked.{Checked}
 use Rattle.validate.specs.Check.{outputsNeeded, faultOutput, faultPoint, faultSwing, checkFault, checked, outputsAfter}
-use Rattle.validate.specs.Verdict.{refusal}
+use Rattle.validate.specs.contracts.Verdict.{refusal}
 use Rattle.validate.proofs.Order.{output-spans, point-spans, swing-spans}
 use Rattle.validate.proofs.Verdict.{refused-is, list-kept, by-network, by-output, by-point, by-swing}
 use lib.Seq.{take-length}
 use lib.Dec.{eqb}
 use Rattle.base.specs.Fault.{fault, unless}
-use Rattle.derived.specs.Scratch.{nonFiniteFrom}
+use Rattle.derived.specs.contracts.Scratch.{nonFiniteFrom}
 use Rattle.derived.proofs.NonFinite.{non-finite-zero}
 
 pub columns-are : {ws : List ℕ} {l : Layout} (count : ℕ) → LaidWords ws l → count ≡ epigraphsBefore ws (l .generators)

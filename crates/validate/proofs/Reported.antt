@@ -19,10 +19,10 @@ use Rattle.network.specs.Layout.{Laid}
 use Rattle.acopf.specs.Factor.{firstNonFinite, networkSections, networkFault}
 use Rattle.acopf.proofs.Order.{network-give}
 use Rattle.derived.specs.Outputs.{flows}
-use Rattle.derived.specs.Scratch.{Held}
+use Rattle.derived.specs.contracts.Scratch.{Held}
 use Rattle.residuals.specs.Residuals.{residuals}
 use Rattle.validate.specs.Check.{Solved, solved, faultReport, faultPoint, faultSwing, faultDerived, reported, reportSections, residualsFault, reportAfter}
-use Rattle.validate.specs.Verdict.{ReportCleared}
+use Rattle.validate.specs.contracts.Verdict.{ReportCleared}
 use Rattle.validate.proofs.Order.{point-spans, swing-spans, derived-spans}
 use Rattle.validate.proofs.Verdict.{derived-of}
 

@@ -18,10 +18,10 @@ use Rattle.network.specs.Network.{buses, branches}
 use Rattle.network.specs.declared.layout.Layout.{Layout}
 use Rattle.network.specs.Layout.{Laid}
 use Rattle.derived.specs.Outputs.{ownObjective, flows, outputs}
-use Rattle.derived.specs.Scratch.{Held}
+use Rattle.derived.specs.contracts.Scratch.{Held}
 use Rattle.derived.proofs.Scratch.{front-outputs}
 use Rattle.residuals.specs.Residuals.{residuals}
-use Rattle.validate.specs.Verdict.{Cleared, refusal}
+use Rattle.validate.specs.contracts.Verdict.{Cleared, refusal}
 use Rattle.validate.proofs.Order.{derived-spans, residual-spans, check-is}
 use Rattle.derived.proofs.Outputs.{length-outputs}
 

@@ -21,10 +21,10 @@ use residuals::residuals_at;
 ghost use mathlib.Core.Path.{_≡_};
 ghost use Prim.Native.Nat.{_+_, _*_, _≤_};
 ghost use lib.ListN.{length};
-ghost use Rattle.derived.specs.Agree.{Ready};
-ghost use Rattle.derived.specs.Scratch.{Held};
+ghost use Rattle.derived.specs.contracts.Agree.{Ready};
+ghost use Rattle.derived.specs.contracts.Scratch.{Held};
 ghost use Rattle.validate.specs.Check.{checked, outputsAfter};
-ghost use Rattle.validate.specs.Verdict.{Cleared, refusal};
+ghost use Rattle.validate.specs.contracts.Verdict.{Cleared, refusal};
 
 fn refused(f: Fault) -> Checked
     ensures { λ r. ⌜ r ≡ refusal f ⌝ }

@@ -20,10 +20,10 @@ ghost use mathlib.Core.List.{List, _++_};
 ghost use Prim.Native.Nat.{ℕ, _≤_};
 ghost use lib.Ieee.{Float};
 ghost use lib.ListN.{length, drop};
-ghost use Rattle.derived.specs.Agree.{Ready};
-ghost use Rattle.derived.specs.Scratch.{Held};
+ghost use Rattle.derived.specs.contracts.Agree.{Ready};
+ghost use Rattle.derived.specs.contracts.Scratch.{Held};
 ghost use Rattle.validate.specs.Check.{faultReport, residualsFault, reportAfter};
-ghost use Rattle.validate.specs.Verdict.{ReportCleared};
+ghost use Rattle.validate.specs.contracts.Verdict.{ReportCleared};
 
 // 12: the list takes nine numbers.
 fn report_fault(lent: usize) -> Fault

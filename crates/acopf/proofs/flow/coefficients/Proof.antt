@@ -1,5 +1,5 @@
 use borrow.Author.Needs.{needs}
-use Rattle.acopf.specs.Leaf.{coefficientsAt}
+use Rattle.acopf.specs.contracts.Leaf.{coefficientsAt}
 use Rattle.acopf.proofs.flow.coefficients.Statement.{statement}
 use Rattle.acopf.proofs.flow.coefficients.Tie as tie
 

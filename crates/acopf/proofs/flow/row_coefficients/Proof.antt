@@ -1,6 +1,6 @@
 use borrow.Author.Needs.{needs}
 use Rattle.acopf.specs.Flow.{coefficients}
-use Rattle.acopf.specs.Leaf.{rowCoefficients}
+use Rattle.acopf.specs.contracts.Leaf.{rowCoefficients}
 use Rattle.acopf.proofs.flow.row_coefficients.Statement.{statement}
 use Rattle.acopf.proofs.flow.row_coefficients.Tie as tie
 

@@ -3,7 +3,7 @@ use native.Mathlib.Nat.{add-zero}
 use mathlib.Core.Path.{_≡_, refl}
 use Prim.Native.Nat.{_+_, _-_, _≤_}
 use lib.ListN.{length, length-set, replicate}
-use Rattle.base.specs.Section.{Wrote}
+use Rattle.base.specs.contracts.Section.{Wrote}
 use Rattle.base.proofs.Sections.{wrote-none, wrote-value}
 use borrow.Author.Needs.{needs}
 use Rattle.base.proofs.section.fill.Statement.{statement}

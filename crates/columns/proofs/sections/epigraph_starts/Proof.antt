@@ -7,8 +7,8 @@ use Rattle.base.specs.Loop.{each}
 use Rattle.network.specs.Network.{generatorAt}
 use Rattle.network.proofs.Good.{generator-zero}
 use Rattle.factor.proofs.Steps.{room, generators-turn}
-use Rattle.base.specs.Section.{Wrote}
-use Rattle.columns.specs.Value.{epigraphValue}
+use Rattle.base.specs.contracts.Section.{Wrote}
+use Rattle.columns.specs.contracts.Value.{epigraphValue}
 use Rattle.base.proofs.Sections.{each-none, each-next}
 use Rattle.columns.proofs.Value.{epigraphs-fit, epigraph-is}
 use borrow.Author.Needs.{needs}

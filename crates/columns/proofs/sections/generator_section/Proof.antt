@@ -6,8 +6,8 @@ use Rattle.base.specs.Loop.{table}
 use Rattle.network.specs.Network.{generatorAt}
 use Rattle.network.proofs.Good.{generator-zero}
 use Rattle.factor.proofs.Steps.{room, generators-turn}
-use Rattle.base.specs.Section.{Wrote}
-use Rattle.columns.specs.Value.{generatorValue}
+use Rattle.base.specs.contracts.Section.{Wrote}
+use Rattle.columns.specs.contracts.Value.{generatorValue}
 use Rattle.base.proofs.Sections.{table-none, table-next}
 use borrow.Author.Needs.{needs}
 use Rattle.columns.proofs.sections.generator_section.Statement.{statement}

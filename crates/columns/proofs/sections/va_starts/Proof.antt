@@ -3,9 +3,9 @@ use Prim.Native.Nat.{_+_, _-_, _≤_}
 use native.Mathlib.Omega.{arith}
 use lib.ListN.{length}
 use Rattle.base.specs.Loop.{table}
-use Rattle.base.specs.Section.{Wrote}
+use Rattle.base.specs.contracts.Section.{Wrote}
 use Rattle.base.proofs.Sections.{table-none, table-next}
-use Rattle.columns.specs.Value.{vaValue}
+use Rattle.columns.specs.contracts.Value.{vaValue}
 use borrow.Author.Needs.{needs}
 use Rattle.columns.proofs.sections.va_starts.Statement.{statement}
 use Rattle.columns.proofs.sections.va_starts.Tie as tie

@@ -3,9 +3,9 @@ use Prim.Native.Nat.{_+_, _-_, _≤_}
 use native.Mathlib.Omega.{arith}
 use lib.ListN.{length}
 use Rattle.base.specs.Loop.{table}
-use Rattle.base.specs.Section.{Wrote}
+use Rattle.base.specs.contracts.Section.{Wrote}
 use Rattle.base.proofs.Sections.{table-none, table-next}
-use Rattle.columns.specs.Value.{vmValue}
+use Rattle.columns.specs.contracts.Value.{vmValue}
 use borrow.Author.Needs.{needs}
 use Rattle.columns.proofs.sections.vm_section.Statement.{statement}
 use Rattle.columns.proofs.sections.vm_section.Tie as tie

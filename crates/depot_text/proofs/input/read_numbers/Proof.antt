@@ -5,7 +5,7 @@ use lib.ListN.{length, length-set}
 use borrow.Author.Needs.{needs}
 use Rattle.base.proofs.Loops.{length-table}
 use Rattle.base.specs.Loop.{table}
-use Rattle.base.specs.Section.{Wrote}
+use Rattle.base.specs.contracts.Section.{Wrote}
 use Rattle.depot_text.specs.Input.{numberAt, wordCount, numberCount, inputNumbers}
 use Rattle.depot_text.proofs.Writes.{table-none, table-step, wrote-take}
 use Rattle.depot_text.proofs.Inputs.{formed-is}

@@ -6,7 +6,7 @@ use borrow.Author.Needs.{needs}
 use Rattle.base.proofs.Loops.{length-table}
 use Rattle.base.specs.Loop.{table}
 use Rattle.depot_text.specs.Input.{wordAt, wordCount, inputWords}
-use Rattle.base.specs.Section.{Wrote}
+use Rattle.base.specs.contracts.Section.{Wrote}
 use Rattle.depot_text.proofs.Writes.{table-none, table-step, wrote-take}
 use Rattle.depot_text.proofs.Inputs.{formed-is}
 use Rattle.depot_text.proofs.input.read_words.Statement.{statement}

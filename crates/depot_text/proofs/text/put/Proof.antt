@@ -3,7 +3,7 @@ use Prim.Native.Nat.{_≤_, _-_, _+_}
 use native.Mathlib.Nat.{add-zero}
 use lib.ListN.{length, take}
 use borrow.Author.Needs.{needs}
-use Rattle.base.specs.Section.{Wrote}
+use Rattle.base.specs.contracts.Section.{Wrote}
 use Rattle.base.proofs.Sections.{take-step, take-done, wrote-none}
 use Rattle.depot_text.proofs.text.put.Statement.{statement}
 use Rattle.depot_text.proofs.text.put.Tie as tie

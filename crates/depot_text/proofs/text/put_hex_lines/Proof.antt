@@ -4,7 +4,7 @@ use native.Mathlib.Omega.{arith}
 use lib.ListN.{length, getD}
 use borrow.Author.Needs.{needs}
 use Rattle.base.specs.Loop.{each}
-use Rattle.base.specs.Section.{Wrote}
+use Rattle.base.specs.contracts.Section.{Wrote}
 use Rattle.depot_text.specs.Text.{hexLine}
 use Rattle.depot_text.proofs.Writes.{each-none, each-step}
 use Rattle.depot_text.proofs.Texts.{length-line, lines-take}

@@ -6,9 +6,9 @@ use Prim.Native.Nat.{ℕ, _-_, _≤_}
 use lib.Ieee.{Float}
 use lib.ListN.{length, length-set}
 use Rattle.network.specs.Network.{branches}
-use Rattle.derived.specs.Agree.{PerBus}
+use Rattle.derived.specs.contracts.Agree.{PerBus}
 use Rattle.derived.specs.Outputs.{pFrom, qFrom, pTo, qTo}
-use Rattle.derived.specs.Scratch.{FlowsAre}
+use Rattle.derived.specs.contracts.Scratch.{FlowsAre}
 use Rattle.derived.proofs.Scratch.{Withdrawn, withdrawn-none, withdrawn-all}
 use Rattle.derived.proofs.Turns.{withdrawn-turn}
 use Rattle.derived.proofs.bus.balances.Statement.{statement}

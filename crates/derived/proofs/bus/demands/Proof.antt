@@ -3,8 +3,8 @@ use native.Mathlib.Omega.{arith}
 use mathlib.Core.Path.{_≡_, refl}
 use Prim.Native.Nat.{_*_, _-_, _≤_}
 use lib.ListN.{length, length-set}
-use Rattle.derived.specs.Agree.{PerBus, Kept}
-use Rattle.derived.specs.Scratch.{pDemand, qDemand}
+use Rattle.derived.specs.contracts.Agree.{PerBus, Kept}
+use Rattle.derived.specs.contracts.Scratch.{pDemand, qDemand}
 use Rattle.derived.proofs.Scratch.{per-bus-next, kept-two}
 use Rattle.derived.proofs.Turns.{demand-p, demand-q}
 use Rattle.derived.proofs.bus.demands.Statement.{statement}

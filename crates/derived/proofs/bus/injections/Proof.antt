@@ -2,7 +2,7 @@ use borrow.Author.Needs.{needs}
 use native.Mathlib.Omega.{arith}
 use mathlib.Core.Path.{_∙_}
 use Rattle.derived.specs.Outputs.{pInjection, qInjection}
-use Rattle.derived.specs.Scratch.{pDemand, qDemand}
+use Rattle.derived.specs.contracts.Scratch.{pDemand, qDemand}
 use Rattle.derived.proofs.bus.injections.Statement.{statement}
 use Rattle.derived.proofs.bus.injections.Tie as tie
 

@@ -6,7 +6,7 @@ use lib.ListN.{length, length-set, getD}
 use lib.Ieee.{nan}
 use Rattle.network.specs.Network.{number}
 use Rattle.acopf.specs.Flow.{re, im, polar}
-use Rattle.derived.specs.Agree.{PerBus}
+use Rattle.derived.specs.contracts.Agree.{PerBus}
 use Rattle.derived.proofs.Scratch.{per-bus-next}
 use Rattle.derived.proofs.Turns.{voltages-are}
 use Rattle.derived.proofs.bus.voltages.Statement.{statement}

@@ -7,7 +7,7 @@ use lib.Ieee.{Float}
 use lib.ListN.{length, length-set}
 use Rattle.network.specs.Network.{branches}
 use Rattle.derived.specs.Outputs.{flows}
-use Rattle.derived.specs.Scratch.{VoltagesAre, FlowsAre}
+use Rattle.derived.specs.contracts.Scratch.{VoltagesAre, FlowsAre}
 use Rattle.derived.proofs.Scratch.{flow-is, flows-next}
 use Rattle.derived.proofs.flow.flows.Statement.{statement}
 use Rattle.derived.proofs.flow.flows.Tie as tie

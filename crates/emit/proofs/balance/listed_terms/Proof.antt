@@ -4,8 +4,8 @@ use mathlib.Core.Path.{_≡_}
 use Prim.Native.Nat.{ℕ, _+_, _-_, _≤_}
 use lib.ListN.{length, getD}
 use Rattle.base.specs.Loop.{each}
-use Rattle.emit.specs.Tokens.{Token, Written}
-use Rattle.emit.specs.Grouped.{itemTokens}
+use Rattle.emit.specs.contracts.Tokens.{Token, Written}
+use Rattle.emit.specs.contracts.Grouped.{itemTokens}
 use Rattle.emit.proofs.Tokens.{turns-none, turns-step, turns-room}
 use borrow.Author.Needs.{needs}
 use Rattle.emit.proofs.balance.listed_terms.Statement.{statement}

@@ -7,7 +7,7 @@ use lib.ListN.{length}
 use lib.Ieee.{Float}
 use Rattle.base.specs.Loop.{each}
 use Rattle.acopf.specs.Parts.{branchParts}
-use Rattle.emit.specs.Tokens.{Token, Written, partTokens}
+use Rattle.emit.specs.contracts.Tokens.{Token, Written, partTokens}
 use Rattle.emit.proofs.Tokens.{turns-none, turns-step, turns-room}
 use Rattle.emit.proofs.parts.branch_flows.Statement.{statement}
 use Rattle.emit.proofs.parts.branch_flows.Tie as tie

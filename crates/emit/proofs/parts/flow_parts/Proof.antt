@@ -3,8 +3,8 @@ use native.Mathlib.Omega.{arith}
 use mathlib.Core.List.{List, [], _∷_}
 use lib.Ieee.{Float}
 use borrow.Author.Needs.{needs}
-use Rattle.emit.specs.Tokens.{Token, partTokens}
-use Rattle.emit.specs.Parts.{flowSum}
+use Rattle.emit.specs.contracts.Tokens.{Token, partTokens}
+use Rattle.emit.specs.contracts.Parts.{flowSum}
 use Rattle.emit.proofs.Tokens.{written-then, room-first, room-then}
 use Rattle.emit.proofs.parts.flow_parts.Statement.{statement}
 use Rattle.emit.proofs.parts.flow_parts.Tie as tie

@@ -7,8 +7,8 @@ use Rattle.base.specs.Loop.{each}
 use Rattle.nl.specs.Expr.{column}
 use Rattle.acopf.specs.Build.{square}
 use Rattle.acopf.specs.Parts.{branchParts}
-use Rattle.emit.specs.Tokens.{Token, partTokens}
-use Rattle.emit.specs.Parts.{sharedTokens}
+use Rattle.emit.specs.contracts.Tokens.{Token, partTokens}
+use Rattle.emit.specs.contracts.Parts.{sharedTokens}
 use Rattle.emit.proofs.Tokens.{written-then, room-first, room-then}
 use Rattle.emit.proofs.parts.shared_parts.Statement.{statement}
 use Rattle.emit.proofs.parts.shared_parts.Tie as tie

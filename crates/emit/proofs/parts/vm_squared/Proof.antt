@@ -7,7 +7,7 @@ use borrow.Author.Needs.{needs}
 use Rattle.base.specs.Loop.{each}
 use Rattle.nl.specs.Expr.{column}
 use Rattle.acopf.specs.Build.{square}
-use Rattle.emit.specs.Tokens.{Token, Written, partTokens}
+use Rattle.emit.specs.contracts.Tokens.{Token, Written, partTokens}
 use Rattle.emit.proofs.Tokens.{turns-none, turns-step, turns-room}
 use Rattle.emit.proofs.parts.vm_squared.Statement.{statement}
 use Rattle.emit.proofs.parts.vm_squared.Tie as tie

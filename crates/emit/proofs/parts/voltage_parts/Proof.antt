@@ -1,6 +1,6 @@
 use native.Mathlib.Omega.{arith}
-use Rattle.emit.specs.Tokens.{partTokens}
-use Rattle.emit.specs.Parts.{angleParts, productParts}
+use Rattle.emit.specs.contracts.Tokens.{partTokens}
+use Rattle.emit.specs.contracts.Parts.{angleParts, productParts}
 use Rattle.emit.proofs.Tokens.{written-then, room-first, room-then}
 use Rattle.emit.proofs.parts.voltage_parts.Statement.{statement}
 use Rattle.emit.proofs.parts.voltage_parts.Tie as tie

@@ -6,8 +6,8 @@ use lib.ListN.{length, take}
 use lib.Seq.{take-length}
 use lib.Ieee.{nan}
 use borrow.Author.Needs.{needs}
-use Rattle.base.specs.Section.{Wrote}
-use Rattle.emit.specs.Tokens.{throughBits}
+use Rattle.base.specs.contracts.Section.{Wrote}
+use Rattle.emit.specs.contracts.Tokens.{throughBits}
 use Rattle.base.proofs.Sections.{wrote-none, take-step}
 use Rattle.emit.proofs.Tokens.{bits-take}
 use Rattle.emit.proofs.writer.put_numbers.Statement.{statement}

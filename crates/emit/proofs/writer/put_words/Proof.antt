@@ -3,7 +3,7 @@ use native.Mathlib.Nat.{add-zero}
 use mathlib.Core.Path.{_≡_}
 use lib.ListN.{length, take}
 use borrow.Author.Needs.{needs}
-use Rattle.base.specs.Section.{Wrote}
+use Rattle.base.specs.contracts.Section.{Wrote}
 use Rattle.base.proofs.Sections.{wrote-none, take-step, take-done}
 use Rattle.emit.proofs.writer.put_words.Statement.{statement}
 use Rattle.emit.proofs.writer.put_words.Tie as tie

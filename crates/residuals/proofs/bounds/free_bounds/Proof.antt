@@ -4,7 +4,7 @@ use native.Mathlib.Omega.{arith}
 use lib.Ieee.{neg, ofBits}
 use borrow.Author.Needs.{needs}
 use Rattle.bounds.specs.Bounds.{huge64}
-use Rattle.residuals.specs.Section.{outside, largestWith}
+use Rattle.residuals.specs.contracts.Section.{outside, largestWith}
 use Rattle.residuals.proofs.Section.{with-none, with-next}
 use Rattle.residuals.proofs.bounds.free_bounds.Statement.{statement}
 use Rattle.residuals.proofs.bounds.free_bounds.Tie as tie

@@ -4,7 +4,7 @@ use mathlib.Core.Path.{_≡_, ap, _∙_}
 use Prim.Native.Nat.{_-_}
 use Rattle.float.specs.Number.{maximum}
 use Rattle.network.specs.Layout.{Standing}
-use Rattle.residuals.specs.Section.{outside, generatorLower, generatorUpper, largestWith}
+use Rattle.residuals.specs.contracts.Section.{outside, generatorLower, generatorUpper, largestWith}
 use Rattle.residuals.proofs.Section.{with-none, with-next}
 use Rattle.residuals.proofs.Room.{bounds-turn, point-length, epigraphs-le}
 use Rattle.residuals.proofs.bounds.generator_bounds.Statement.{statement}

@@ -4,7 +4,7 @@ use mathlib.Core.Path.{_≡_, ap, _∙_}
 use Prim.Native.Nat.{_-_, _≤_}
 use Rattle.float.specs.Number.{maximum}
 use Rattle.acopf.specs.Columns.{vmLower, vmUpper}
-use Rattle.residuals.specs.Section.{outside, largestWith}
+use Rattle.residuals.specs.contracts.Section.{outside, largestWith}
 use Rattle.residuals.proofs.Section.{with-none, with-next}
 use Rattle.residuals.proofs.Room.{vm-turn}
 use Rattle.residuals.proofs.bounds.vm_bounds.Statement.{statement}

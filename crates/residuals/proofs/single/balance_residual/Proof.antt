@@ -4,7 +4,7 @@ use mathlib.Core.Path.{_≡_, ap, _∙_}
 use Prim.Native.Nat.{_+_, _-_, _≤_}
 use Rattle.float.specs.Number.{zero64, absolute}
 use Rattle.network.specs.Network.{number}
-use Rattle.residuals.specs.Section.{largestWith}
+use Rattle.residuals.specs.contracts.Section.{largestWith}
 use Rattle.residuals.proofs.Section.{with-none, with-next, with-same, largest-is}
 use Rattle.residuals.proofs.single.balance_residual.Statement.{statement}
 use Rattle.residuals.proofs.single.balance_residual.Tie as tie

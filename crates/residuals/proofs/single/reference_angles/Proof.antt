@@ -5,7 +5,7 @@ use Prim.Native.Nat.{_-_, _≤_}
 use Rattle.float.specs.Number.{zero64, absolute}
 use Rattle.network.specs.Network.{references, referred, number}
 use Rattle.residuals.specs.Residuals.{referenceAngles}
-use Rattle.residuals.specs.Section.{largestWith}
+use Rattle.residuals.specs.contracts.Section.{largestWith}
 use Rattle.residuals.proofs.Section.{with-none, with-next, largest-is}
 use Rattle.residuals.proofs.single.reference_angles.Statement.{statement}
 use Rattle.residuals.proofs.single.reference_angles.Tie as tie

@@ -5,7 +5,7 @@ use native.Mathlib.Numerals.{add-one}
 use native.Mathlib.Omega.{arith}
 use lib.Ieee.{Float, div, neg, ofBits}
 use borrow.Author.Needs.{needs}
-use Rattle.acopf.specs.Prepared.{Prepared}
+use Rattle.acopf.specs.contracts.Prepared.{Prepared}
 use Rattle.acopf.specs.Curve.{evaluate}
 use Rattle.acopf.proofs.Leaves.{evaluate-none, evaluate-next, prepared-slope, prepared-intercept}
 use Rattle.acopf.proofs.curve.PiecewiseCost.evaluate.Statement.{statement}

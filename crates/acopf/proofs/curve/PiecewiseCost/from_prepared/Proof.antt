@@ -4,7 +4,7 @@ use native.Mathlib.Numerals.{add-one}
 use native.Mathlib.Omega.{arith}
 use lib.ListN.{length, length-set}
 use borrow.Author.Needs.{needs}
-use Rattle.acopf.specs.Prepared.{Prepared}
+use Rattle.acopf.specs.contracts.Prepared.{Prepared}
 use Rattle.acopf.proofs.Leaves.{prepared-none, prepared-next}
 use Rattle.acopf.proofs.curve.PiecewiseCost.from_prepared.Statement.{statement}
 use Rattle.acopf.proofs.curve.PiecewiseCost.from_prepared.Tie as tie

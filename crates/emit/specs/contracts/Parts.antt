@@ -7,7 +7,7 @@ use Rattle.base.specs.Loop.{each}
 use Rattle.nl.specs.Expr.{Expr, column, shared}
 use Rattle.acopf.specs.Build.{subtract, multiply, square, cosineOf, sineOf, scaled, sum}
 use Rattle.acopf.specs.Parts.{branchParts}
-use Rattle.emit.specs.Tokens.{Token, partTokens}
+use Rattle.emit.specs.contracts.Tokens.{Token, partTokens}
 
 -- angle and voltage product
 abbrev pub angleParts : ℕ → ℕ → ℕ → List Expr

@@ -9,7 +9,7 @@ use lib.Ieee.{Float, binary64, ofBits, toBits}
 use Rattle.base.specs.Word.{word}
 use Rattle.nl.specs.Expr.{Expr, Terms, none, more, constant, column, shared, over, count}
 use Rattle.emit.specs.declared.writer.Writer.{Writer}
-use Rattle.base.specs.Section.{Wrote}
+use Rattle.base.specs.contracts.Section.{Wrote}
 
 -- a word as it stands; a constant, by its 64 bits; the beginning of a shared part or row, by its kind
 pub data Token : Type 0 where

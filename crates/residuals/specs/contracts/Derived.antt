@@ -4,7 +4,7 @@ use mathlib.Core.List.{List}
 use lib.Ieee.{Float}
 use lib.ListN.{length}
 use Rattle.network.specs.declared.layout.Layout.{Layout}
-use Rattle.derived.specs.Agree.{PerBus}
+use Rattle.derived.specs.contracts.Agree.{PerBus}
 use Rattle.derived.specs.Outputs.{flows}
 use Rattle.residuals.specs.Residuals.{pBalance, qBalance}
 

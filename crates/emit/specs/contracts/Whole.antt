@@ -4,10 +4,10 @@ use mathlib.Core.List.{List, _++_}
 use lib.Ieee.{Float}
 use Rattle.base.specs.Loop.{each}
 use Rattle.network.specs.declared.layout.Layout.{Layout}
-use Rattle.emit.specs.Tokens.{Token}
-use Rattle.emit.specs.Balance.{balancesOf}
-use Rattle.emit.specs.Rows.{referenceTokens, angleTokens, thermalTokens, curveTokens}
-use Rattle.emit.specs.Objective.{costCount, objectiveTokens}
+use Rattle.emit.specs.contracts.Tokens.{Token}
+use Rattle.emit.specs.contracts.Balance.{balancesOf}
+use Rattle.emit.specs.contracts.Rows.{referenceTokens, angleTokens, thermalTokens, curveTokens}
+use Rattle.emit.specs.contracts.Objective.{costCount, objectiveTokens}
 
 module _ (ws : List ℕ) (xs : List Float) (l : Layout) where
   -- p balances, q balances, references

@@ -11,7 +11,7 @@ use Rattle.network.specs.Limits.{mostBuses, mostBranches}
 use Rattle.network.specs.Network.{pD, qD, gS, bS}
 use Rattle.network.specs.declared.layout.Layout.{Layout}
 use Rattle.acopf.specs.Flow.{re, im, voltage}
-use Rattle.derived.specs.Agree.{At, PerBus}
+use Rattle.derived.specs.contracts.Agree.{At, PerBus}
 use Rattle.derived.specs.Outputs.{vm, pInjection, qInjection, ownObjective, flows, pFrom, qFrom, pTo, qTo}
 
 -- two numbers for each bus and four for each branch, so never more than 2,560

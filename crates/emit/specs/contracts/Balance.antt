@@ -6,7 +6,7 @@ use lib.Ieee.{Float, binary64, toBits}
 use Rattle.base.specs.Loop.{each}
 use Rattle.base.specs.Word.{word}
 use Rattle.acopf.specs.Rows.{pBalance, qBalance}
-use Rattle.emit.specs.Tokens.{Token, fixed, numbered, begins, partTokens}
+use Rattle.emit.specs.contracts.Tokens.{Token, fixed, numbered, begins, partTokens}
 
 -- the row's beginning, the sum's own word, demand and shunt
 abbrev pub rowHead : ℕ → ℕ → Float → Float → List Token
