@@ -33,7 +33,8 @@ use Rattle.compile.specs.Compile.{lengths, faultShort, compileFault, refused, a
 use Rattle.derived.specs.Outputs.{injected, withdrawn, pInjection, qInjection, cost, ownObjective, flows, outputs}
 use Rattle.residuals.specs.Residuals.{largest, largestWhere, pBalance as pBalanceCheck, qBalance as qBalanceCheck, activeBalance, reactiveBalance, thermalLimits, variableBounds, referenceAngles, angleLimits, epigraphs, objectiveDifference, residuals}
 use Rattle.validate.specs.Check.{tiny64, tolerances, solved, faultOutput, faultPoint, faultSwing, faultDerived, faultResidual, faultOf, checkFault, checked}
-use Rattle.depot_text.specs.Input.{wordAt, bitsAt, formed, inputWords, inputNumbers}
+use Rattle.depot_text.specs.Input.{formed, inputWords, inputNumbers}
+use Rattle.little_endian.specs.Bytes.{wordAt, bitsAt}
 use Rattle.depot_text.specs.Text.{hexLine, hexLines, decimalWithin, refusedLine, networkText, output}
 
 -- the numbers of a decimal, as a literal is read

@@ -7,7 +7,8 @@ use lib.ListN.{length}
 use lib.Dec.{eqb, leb}
 use borrow.Author.Tests.{le-leb, lt-leb, leb-true, eqb-true}
 use Rattle.network.proofs.Places.{and-left, and-right}
-use Rattle.depot_text.specs.Input.{wordAt, formed, wordCount, numberCount}
+use Rattle.depot_text.specs.Input.{formed, wordCount, numberCount}
+use Rattle.little_endian.specs.Bytes.{wordAt}
 
 module _ (bytes : List ℕ) where
   pub formed-below : length bytes < 8 → false ≡ formed bytes

@@ -1,6 +1,7 @@
 // Calls sine, cosine, square root and hypotenuse on the vectors of data/vectors.bin (tests/fdlibm/README.md says how they were made)
 // and prints how many there were of each, and how many answers were not the stored one to the bit.
 use libc::STDOUT_FILENO;
+use little_endian::bits_at;
 ghost use Prim.Native.Nat.{_+_, _≤_};
 ghost use lib.ListN.{length};
 
@@ -22,34 +23,14 @@ struct Counts {
     wrong: u64,
 }
 
-fn wide(x: u8) -> u64 {
-    x as u64
-}
-
-// The little-endian number of four bytes.
-fn half_word(bytes: &[u8], at: usize) -> u64
-    requires { ⌜ at + 4 ≤ length (now bytes) ⌝ }
-{
-    wide(bytes[at])
-        | wide(bytes[at + 1]) << 8
-        | wide(bytes[at + 2]) << 16
-        | wide(bytes[at + 3]) << 24
-}
-
-fn word(bytes: &[u8], at: usize) -> u64
-    requires { ⌜ at + 8 ≤ length (now bytes) ⌝ }
-{
-    half_word(bytes, at) | half_word(bytes, at + 4) << 32
-}
-
 fn vector_at(bytes: &[u8], at: usize) -> Vector
     requires { ⌜ at + 32 ≤ length (now bytes) ⌝ }
 {
     Vector {
-        function: word(bytes, at),
-        x: word(bytes, at + 8),
-        y: word(bytes, at + 16),
-        expected: word(bytes, at + 24),
+        function: bits_at(bytes, at),
+        x: bits_at(bytes, at + 8),
+        y: bits_at(bytes, at + 16),
+        expected: bits_at(bytes, at + 24),
     }
 }
 

@@ -1,18 +1,13 @@
 // Replays the model files of data/files, each with the answer that document 01 gives of it (tests/nl/files.py, which says how a
 // record is laid out), and prints how many there are and for how many an answer is another.
 use libc::STDOUT_FILENO;
+use little_endian::word_at;
 ghost use mathlib.Core.Path.{_≡_};
 ghost use Prim.Native.Nat.{_≤_, _<_};
 ghost use lib.ListN.{length};
 
 // The most words that a record's file has.
 const MOST: usize = 64;
-
-fn wide(b: u8) -> u32
-    ensures { λ r. ⌜ r ≤ 255 ⌝ }
-{
-    b as u32
-}
 
 // The record's word i, where the record starts at word `at`; 0 past the data.
 fn word(data: &[u8], at: usize, i: usize) -> u32 {
@@ -23,11 +18,7 @@ fn word(data: &[u8], at: usize, i: usize) -> u32 {
     if n - at <= i {
         return 0;
     }
-    let b = (at + i) * 4;
-    wide(data[b])
-        + wide(data[b + 1]) * 0x100
-        + wide(data[b + 2]) * 0x1_0000
-        + wide(data[b + 3]) * 0x100_0000
+    word_at(data, (at + i) * 4)
 }
 
 fn number(data: &[u8], at: usize, i: usize) -> usize

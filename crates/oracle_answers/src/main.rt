@@ -2,6 +2,8 @@
 // chosen) through compile and the check, and prints how many there are and for how many the answer or a list is another.
 use compile::Compiled;
 use libc::STDOUT_FILENO;
+use little_endian::bits_at;
+use little_endian::word_at;
 ghost use mathlib.Core.Path.{_≡_};
 ghost use Prim.Native.Nat.{_+_, _≤_, _<_};
 ghost use lib.ListN.{length};
@@ -10,22 +12,6 @@ ghost use lib.ListN.{length};
 const WORDS: usize = 32;
 
 const NUMBERS: usize = 256;
-
-fn wide(b: u8) -> u32
-    ensures { λ r. ⌜ r ≤ 255 ⌝ }
-{
-    b as u32
-}
-
-// The 32-bit number at byte b.
-fn half(bytes: &[u8], b: usize) -> u32
-    requires { ⌜ b + 4 ≤ length (now bytes) ⌝ }
-{
-    wide(bytes[b])
-        + wide(bytes[b + 1]) * 0x100
-        + wide(bytes[b + 2]) * 0x1_0000
-        + wide(bytes[b + 3]) * 0x100_0000
-}
 
 // The record's cell i, where the record starts at cell `at`; 0 past the data.
 fn cell(bytes: &[u8], at: usize, i: usize) -> u64 {
@@ -36,8 +22,7 @@ fn cell(bytes: &[u8], at: usize, i: usize) -> u64 {
     if n - at <= i {
         return 0;
     }
-    let b = (at + i) * 8;
-    half(bytes, b) as u64 + half(bytes, b + 4) as u64 * 0x1_0000_0000
+    bits_at(bytes, (at + i) * 8)
 }
 
 // A cell's lower half.
@@ -49,7 +34,7 @@ fn word(bytes: &[u8], at: usize, i: usize) -> u32 {
     if n - at <= i {
         return 0;
     }
-    half(bytes, (at + i) * 8)
+    word_at(bytes, (at + i) * 8)
 }
 
 // Reads word k of those that stand two a cell from cell i on.
@@ -64,7 +49,7 @@ fn half_cell(bytes: &[u8], at: usize, i: usize, k: usize) -> u32
     if n - 2 * at <= from {
         return 0;
     }
-    half(bytes, (2 * at + from) * 4)
+    word_at(bytes, (2 * at + from) * 4)
 }
 
 fn number(bytes: &[u8], at: usize, i: usize) -> usize

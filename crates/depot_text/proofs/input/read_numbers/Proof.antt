@@ -6,7 +6,8 @@ use borrow.Author.Needs.{needs}
 use Rattle.base.proofs.Loops.{length-table}
 use Rattle.base.specs.Loop.{table}
 use Rattle.base.specs.contracts.Section.{Wrote}
-use Rattle.depot_text.specs.Input.{numberAt, wordCount, numberCount, inputNumbers}
+use Rattle.depot_text.specs.Input.{wordCount, numberCount, inputNumbers}
+use Rattle.little_endian.specs.Bytes.{numberAt}
 use Rattle.depot_text.proofs.Writes.{table-none, table-step, wrote-take}
 use Rattle.depot_text.proofs.Inputs.{formed-is}
 use Rattle.depot_text.proofs.input.read_numbers.Statement.{statement}

@@ -5,7 +5,8 @@ use lib.ListN.{length, length-set}
 use borrow.Author.Needs.{needs}
 use Rattle.base.proofs.Loops.{length-table}
 use Rattle.base.specs.Loop.{table}
-use Rattle.depot_text.specs.Input.{wordAt, wordCount, inputWords}
+use Rattle.depot_text.specs.Input.{wordCount, inputWords}
+use Rattle.little_endian.specs.Bytes.{wordAt}
 use Rattle.base.specs.contracts.Section.{Wrote}
 use Rattle.depot_text.proofs.Writes.{table-none, table-step, wrote-take}
 use Rattle.depot_text.proofs.Inputs.{formed-is}

@@ -1,8 +1,8 @@
 use native.Mathlib.Omega.{arith}
 use borrow.Author.Needs.{needs}
-use Rattle.depot_text.specs.Input.{bitsAt}
-use Rattle.depot_text.proofs.input.bits_at.Statement.{statement}
-use Rattle.depot_text.proofs.input.bits_at.Tie as tie
+use Rattle.little_endian.specs.Bytes.{bitsAt}
+use Rattle.little_endian.proofs.bits_at.Statement.{statement}
+use Rattle.little_endian.proofs.bits_at.Tie as tie
 
 word-at-requires : tie.Need-word-at-requires
 word-at-requires c κs = search needs

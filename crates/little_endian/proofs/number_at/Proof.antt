@@ -1,8 +1,8 @@
 use mathlib.Core.Path.{ap, _∙_}
 use lib.Ieee.{binary64, ofBits}
 use borrow.Author.Needs.{needs}
-use Rattle.depot_text.proofs.input.number_at.Statement.{statement}
-use Rattle.depot_text.proofs.input.number_at.Tie as tie
+use Rattle.little_endian.proofs.number_at.Statement.{statement}
+use Rattle.little_endian.proofs.number_at.Tie as tie
 
 bits-at-requires : tie.Need-bits-at-requires
 bits-at-requires c κs = search needs

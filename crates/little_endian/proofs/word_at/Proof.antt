@@ -1,7 +1,7 @@
 use borrow.Author.Needs.{needs}
-use Rattle.depot_text.specs.Input.{wordAt}
-use Rattle.depot_text.proofs.input.word_at.Statement.{statement}
-use Rattle.depot_text.proofs.input.word_at.Tie as tie
+use Rattle.little_endian.specs.Bytes.{wordAt}
+use Rattle.little_endian.proofs.word_at.Statement.{statement}
+use Rattle.little_endian.proofs.word_at.Tie as tie
 
 shared-slice-read-little-endian : tie.Need-shared-slice-read-little-endian
 shared-slice-read-little-endian c = search needs

@@ -1,7 +1,7 @@
 use native.Mathlib.Omega.{arith}
 use borrow.Author.Needs.{needs}
-use Rattle.depot_text.proofs.input.little_endian.Statement.{statement}
-use Rattle.depot_text.proofs.input.little_endian.Tie as tie
+use Rattle.little_endian.proofs.little_endian.Statement.{statement}
+use Rattle.little_endian.proofs.little_endian.Tie as tie
 
 wide-requires : tie.Need-wide-requires
 wide-requires c κs = search needs
