@@ -39,8 +39,8 @@ firstOf [] = clear
 firstOf (s ∷ []) = s .its
 firstOf (s ∷ t ∷ later) = orElse (s .its) (firstOf (t ∷ later))
 
--- document 00, condition 1: a lent list after the call has "the finished result in its named front part with the rest untouched, or, after a
--- refusal, exactly what it held before"
+-- document 00, condition 1: a lent list after the call has "the finished result in its named front part with the rest untouched, or, after
+-- a refusal, exactly what it held before"
 abbrev pub left : {A : Type 0} → Fault → List A → List A → List A
 left f result before = cond (eqb (f .number) 0) (result ++ drop (length result) before) before
 

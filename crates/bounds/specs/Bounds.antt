@@ -1,4 +1,5 @@
--- The Rust's small functions on bounds and starts (000: finite_or, clamp_start, validate_bounds, positive_violation), and document 01's range of angles.
+-- The Rust's small functions on bounds and starts (000: finite_or, clamp_start, validate_bounds, positive_violation), and document 01's
+-- range of angles.
 use mathlib.Core.Bool.{Bool, cond, not, _&&_}
 use lib.Ieee.{Float, binary64, ofBits, neg, lt, le}
 use Rattle.float.specs.Number.{_⊖_, zero64, isFinite, maximum}

@@ -10,8 +10,8 @@ pub record Near (m w : ℕ) : Type 0 where
   pub low : w * w < m + w
   pub high : m ≤ w * w + w
 
--- r is x's root, correctly rounded: x is size / 2^1074 and r is p * 2^k / 2^1074, p has 53 digits, and the root is within half a unit of r's last digit.
--- Where p is 2^52 the number below r is half as far, and the root is not below r.
+-- r is x's root, correctly rounded: x is size / 2^1074 and r is p * 2^k / 2^1074, p has 53 digits, and the root is within
+-- half a unit of r's last digit. Where p is 2^52 the number below r is half as far, and the root is not below r.
 -- Both sides are squared, with 4 * size * 2^1074 for the square of twice the root in units of 2^-1074.
 pub record Nearest (x r : Float) : Type 0 where
   pub size : ℕ

@@ -1,6 +1,6 @@
 -- fdlibm 5.3's e_rem_pio2.c: x less the nearest multiple of pi/2, as y0 + y1, and n & 3, all that sine and cosine use of the multiple n.
--- It is fdlibm's up to |x| = 2^19*pi/2, about 823,550. Past that fdlibm calls __kernel_rem_pio2, with its table of 2/pi; here the medium case
--- goes on, so that the answer is defined and is not fdlibm's.
+-- It is fdlibm's up to |x| = 2^19*pi/2, about 823,550. Past that fdlibm calls __kernel_rem_pio2, with its table of 2/pi; here the
+-- medium case goes on, so that the answer is defined and is not fdlibm's.
 use Prim.Native.Nat.{ℕ, _+_, _-_, _*_, _/_, _%_, _^_}
 use mathlib.Core.Bool.{Bool, cond, not, _&&_}
 use mathlib.Core.List.{List, [], _∷_}
@@ -87,7 +87,8 @@ firstIteration ix t n =
     let fn = ofInt binary64 (pos n) in
     let r = t ⊖ fn ⊗ pio2-1 in
     let w = fn ⊗ pio2-1t in
-    cond (noCancellation n ix) (twoParts n r w) (cond (ltb (exponentField (r ⊖ w) + 16) (ix / 2 ^ 20)) (secondIteration (ix / 2 ^ 20) n fn r) (twoParts n r w))
+    cond (noCancellation n ix) (twoParts n r w)
+    (cond (ltb (exponentField (r ⊖ w) + 16) (ix / 2 ^ 20)) (secondIteration (ix / 2 ^ 20) n fn r) (twoParts n r w))
 
 -- |x| up to 2^19*pi/2, with the sign dropped
 abbrev pub medium : Float → Reduced
@@ -110,7 +111,8 @@ nearNegative ix x =
 
 -- n & 3; for hx < 0 -n & 3 and the negated parts
 unfoldable pub signed : Bool → Reduced → Reduced
-signed s v = cond s (record { q = (4 - v .q % 4) % 4; y0 = neg (v .y0); y1 = neg (v .y1) }) (record { q = v .q % 4; y0 = v .y0; y1 = v .y1 })
+signed s v =
+    cond s (record { q = (4 - v .q % 4) % 4; y0 = neg (v .y0); y1 = neg (v .y1) }) (record { q = v .q % 4; y0 = v .y0; y1 = v .y1 })
 
 -- hx < 0
 abbrev pub minusSign : Float → Bool

@@ -12,12 +12,14 @@ use Rattle.fdlibm.specs.declared.e_rem_pio2.Reduced.{Reduced}
 unfoldable pub sinReduced : Reduced → Float
 sinReduced v =
     cond (eqb (v .q) 0) (kernelSin (v .y0) (v .y1) true)
-    (cond (eqb (v .q) 1) (kernelCos (v .y0) (v .y1)) (cond (eqb (v .q) 2) (neg (kernelSin (v .y0) (v .y1) true)) (neg (kernelCos (v .y0) (v .y1)))))
+    (cond (eqb (v .q) 1) (kernelCos (v .y0) (v .y1))
+    (cond (eqb (v .q) 2) (neg (kernelSin (v .y0) (v .y1) true)) (neg (kernelCos (v .y0) (v .y1)))))
 
 unfoldable pub cosReduced : Reduced → Float
 cosReduced v =
     cond (eqb (v .q) 0) (kernelCos (v .y0) (v .y1))
-    (cond (eqb (v .q) 1) (neg (kernelSin (v .y0) (v .y1) true)) (cond (eqb (v .q) 2) (neg (kernelCos (v .y0) (v .y1))) (kernelSin (v .y0) (v .y1) true)))
+    (cond (eqb (v .q) 1) (neg (kernelSin (v .y0) (v .y1) true))
+    (cond (eqb (v .q) 2) (neg (kernelCos (v .y0) (v .y1))) (kernelSin (v .y0) (v .y1) true)))
 
 -- s_sin.c: |x| up to pi/4 by the kernel alone, infinite or NaN is NaN, else by reduction
 unfoldable pub sine : Float → Float

@@ -2,7 +2,8 @@
 ghost use mathlib.Core.Path.{_≡_};
 ghost use Prim.Native.Nat.{_<_, _-_};
 ghost use lib.ListN.{getD};
-ghost use Rattle.fdlibm.specs.RemPio2.{twoParts, thirdIteration, exponentField, secondIteration, npio2-hw, noCancellation, firstIteration, medium, nearPositive, twoPartsNegative, nearNegative, signed, remPio2};
+ghost use Rattle.fdlibm.specs.RemPio2.{twoParts, thirdIteration, exponentField, secondIteration, npio2-hw, noCancellation};
+ghost use Rattle.fdlibm.specs.RemPio2.{firstIteration, medium, nearPositive, twoPartsNegative, nearNegative, signed, remPio2};
 
 // The high words of n*pi/2, n from 1 to 32.
 const NPIO2_HW: [u64; 32] = [

@@ -11,7 +11,8 @@ use Rattle.base.specs.Fault.{fault, unless, orElse, first}
 use Rattle.base.specs.Refusal.{WORDS, SIZE, COUNT}
 use Rattle.network.specs.Limits.{mostBuses, mostGenerators, mostBranches, mostReferences, mostPoints}
 use Rattle.network.specs.Word.{loadRight}
-use Rattle.network.specs.Network.{kindBefore, buses, generators, branches, references, busPlace, generatorPlace, branchPlace, referencePlace, points, needed, number}
+use Rattle.network.specs.Network.{kindBefore, buses, generators, branches, references}
+use Rattle.network.specs.Network.{busPlace, generatorPlace, branchPlace, referencePlace, points, needed, number}
 
 module _ (ws : List ℕ) where
   -- the first word is a header and no other is, kinds do not fall, and the load is right

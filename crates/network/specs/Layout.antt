@@ -15,8 +15,10 @@ use Rattle.network.specs.declared.records.Bus.{Bus}
 use Rattle.network.specs.declared.records.Generator.{Generator}
 use Rattle.network.specs.declared.records.Branch.{Branch}
 use Rattle.network.specs.declared.layout.Cursor.{Cursor}
-use Rattle.network.specs.Limits.{busNumbers, generatorNumbers, pointNumbers, branchNumbers, mostBuses, mostGenerators, mostBranches, mostReferences, mostPoints, mostNumbers}
-use Rattle.network.specs.Network.{number, buses, generators, branches, references, costs, vmBounded, busOf, capable, points, curved, from, to, angled, limited, referred, busAt, generatorAt, branchAt}
+use Rattle.network.specs.Limits.{busNumbers, generatorNumbers, pointNumbers, branchNumbers}
+use Rattle.network.specs.Limits.{mostBuses, mostGenerators, mostBranches, mostReferences, mostPoints, mostNumbers}
+use Rattle.network.specs.Network.{number, buses, generators, branches, references, costs, vmBounded, busOf, capable, points, curved}
+use Rattle.network.specs.Network.{from, to, angled, limited, referred, busAt, generatorAt, branchAt}
 
 -- of n buses, k generators, m branches and r references, where the branches' numbers start at `end`
 abbrev pub layoutFrom : ℕ → ℕ → ℕ → ℕ → ℕ → Bool → Layout
@@ -122,7 +124,8 @@ pub record LaidWords (ws : List ℕ) (l : Layout) : Type 0 where
   -- where the numbers of each kind stand: the buses', the generators', the branches'
   pub generator-numbers : l .«generator_numbers» ≡ busNumbers * l .buses
   pub bus-ends : l .«generator_numbers» ≤ l .«branch_numbers»
-  pub generator-ends : (g : ℕ) → g < l .generators → generatorAt ws g + generatorNumbers + pointNumbers * points ws g ≤ l .«branch_numbers»
+  pub generator-ends : (g : ℕ) → g < l .generators
+      → generatorAt ws g + generatorNumbers + pointNumbers * points ws g ≤ l .«branch_numbers»
   pub few-needed : l .«branch_numbers» + branchNumbers * l .branches ≤ mostNumbers
 
 -- the list of numbers is right too, and each record's numbers lie in it: what refusal 3 leaves

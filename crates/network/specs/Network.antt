@@ -10,7 +10,8 @@ use Rattle.base.specs.Word.{kindOf}
 use Rattle.base.specs.Loop.{loop, tally}
 use Rattle.float.specs.Number.{zero64}
 use Rattle.network.specs.Limits.{busNumbers, generatorNumbers, pointNumbers, branchNumbers}
-use Rattle.network.specs.Word.{headerCosts, busBounded, generatorBus, generatorBounded, generatorPoints, branchFrom, branchTo, branchAngled, branchLimited, referenceBus}
+use Rattle.network.specs.Word.{headerCosts, busBounded, generatorBus, generatorBounded, generatorPoints}
+use Rattle.network.specs.Word.{branchFrom, branchTo, branchAngled, branchLimited, referenceBus}
 
 module _ (ws : List ℕ) where
   -- how many of the first `count` words have that kind

@@ -77,7 +77,8 @@ pub(crate) fn generators_end(words: &[u32], n: usize, k: usize) -> usize
 
 fn layout_from(sizes: Sizes, branch_numbers: usize, costs: bool) -> Layout
     requires { ⌜ (sizes .buses ≤ mostBuses) × (sizes .generators ≤ mostGenerators) × (sizes .branches ≤ mostBranches) ⌝ }
-    ensures { λ r. ⌜ r ≡ layoutFrom (sizes .buses) (sizes .generators) (sizes .branches) (sizes .references) «branch_numbers» costs ⌝ }
+    ensures { λ r. ⌜ r ≡ layoutFrom (sizes .buses) (sizes .generators) (sizes .branches) (sizes .references)
+        «branch_numbers» costs ⌝ }
 {
     let n = sizes.buses;
     let k = sizes.generators;

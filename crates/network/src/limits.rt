@@ -41,8 +41,8 @@ fn points_fault(words: &[u32], n: usize, k: usize) -> Fault
 
 // n, k, m and r are the counts of buses, generators, branches and references.
 pub(crate) fn size_fault(words: &[u32], n: usize, k: usize, m: usize, r: usize) -> Fault
-    requires { ⌜ (n ≡ buses (now words)) × (k ≡ generators (now words)) × (m ≡ branches (now words)) × (r ≡ references (now words))
-        × (faultWords (now words) .number ≡ 0) ⌝ }
+    requires { ⌜ (n ≡ buses (now words)) × (k ≡ generators (now words)) × (m ≡ branches (now words))
+        × (r ≡ references (now words)) × (faultWords (now words) .number ≡ 0) ⌝ }
     ensures { λ f. ⌜ f ≡ faultSize (now (words .entry)) ⌝ }
 {
     if n < 1 {

@@ -18,7 +18,8 @@ ghost use Prim.Native.Nat.{_+_, _<_, _≤_};
 ghost use lib.ListN.{length};
 ghost use Rattle.network.specs.Limits.{busNumbers, generatorNumbers, branchNumbers};
 ghost use Rattle.network.specs.Network.{referred};
-ghost use Rattle.network.specs.Layout.{LaidWords, Laid, Standing, busAtPlace, generatorAtPlace, branchAtPlace, busRecord, GeneratorRead, BranchRead};
+ghost use Rattle.network.specs.Layout.{LaidWords, Laid};
+ghost use Rattle.network.specs.Layout.{Standing, busAtPlace, generatorAtPlace, branchAtPlace, busRecord, GeneratorRead, BranchRead};
 
 pub struct Bus {
     pub bounded: bool,
@@ -127,7 +128,8 @@ fn generator_at(
 }
 
 pub fn generator_of(words: &[u32], numbers: &[f64], layout: Layout, cursor: Cursor) -> Generator
-    requires { ⌜ (Laid (now words) (now numbers) layout) × (Standing (now words) layout cursor) × (cursor .index < layout .generators) ⌝ }
+    requires { ⌜ (Laid (now words) (now numbers) layout) × (Standing (now words) layout cursor)
+        × (cursor .index < layout .generators) ⌝ }
     ensures { λ r. ⌜ GeneratorRead (now (words .entry)) (now (numbers .entry)) layout (cursor .index) r ⌝ }
 {
     let first = layout.generator_words;

@@ -2,7 +2,8 @@
 ghost use mathlib.Core.Path.{_≡_};
 ghost use Prim.Native.Nat.{_<_};
 ghost use Rattle.base.specs.Word.{field, flag};
-ghost use Rattle.network.specs.Word.{headerCosts, busBounded, generatorBus, generatorBounded, generatorPoints, branchFrom, branchTo, branchAngled, branchLimited, referenceBus, loadRight};
+ghost use Rattle.network.specs.Word.{headerCosts, busBounded, generatorBus, generatorBounded, generatorPoints};
+ghost use Rattle.network.specs.Word.{branchFrom, branchTo, branchAngled, branchLimited, referenceBus, loadRight};
 
 // `width` bits from bit `low` on.
 fn field(w: u32, low: u32, width: u32) -> u32

@@ -16,7 +16,8 @@ use Rattle.nl.specs.declared.Parts.{Parts}
 use Rattle.nl.specs.declared.Parts.the-variants.{Stop, Bad}
 use Rattle.nl.specs.File.{depthLimit}
 use Rattle.nl.specs.Reader.{wordOk, arity, uses, after, many, readExpr, isMark, thenParts, readParts, readLast, readEnd}
-use Rattle.nl.specs.Finder.{found, findAfter, find}
+use Rattle.base.specs.Refusal.{MODEL}
+use Rattle.nl.specs.Finder.{refused, findAfter, find}
 use Rattle.nl.proofs.Steps.{spelled, no-depth}
 use Rattle.nl.proofs.Sound.{goes-on}
 use Rattle.nl.proofs.PartSteps.{no-more}
@@ -151,7 +152,8 @@ module _ (ws ws′ : List ℕ) (q : ℕ) (le : q ≤ length ws) (le′ : q ≤ l
 
         by-mark : (b : Bool) → reachParts (cond b (thenParts (readExpr ws constants columns (named i) depthLimit (at + 1) k) (on ws constants columns named kind r n i at start end)) (Stop i at k start end)) ≤ q
             → ((a b s t : ℕ) → reachParts (readParts ws constants columns named kind r n (i + 1) a b s t) ≤ q → readParts ws′ constants columns named kind r n (i + 1) a b s t ≡ readParts ws constants columns named kind r n (i + 1) a b s t)
-            → cond b (thenParts (readExpr ws′ constants columns (named i) depthLimit (at + 1) k) (on ws′ constants columns named kind r n i at start end)) (Stop i at k start end) ≡ cond b (thenParts (readExpr ws constants columns (named i) depthLimit (at + 1) k) (on ws constants columns named kind r n i at start end)) (Stop i at k start end)
+            → cond b (thenParts (readExpr ws′ constants columns (named i) depthLimit (at + 1) k) (on ws′ constants columns named kind r n i at start end)) (Stop i at k start end)
+            ≡ cond b (thenParts (readExpr ws constants columns (named i) depthLimit (at + 1) k) (on ws constants columns named kind r n i at start end)) (Stop i at k start end)
         by-mark true l rec = by-read (readExpr ws constants columns (named i) depthLimit (at + 1) k) refl l rec
         by-mark false l rec = refl
 
@@ -216,30 +218,30 @@ module _ (ws ws′ : List ℕ) (q : ℕ) (le : q ≤ length ws) (le′ : q ≤ l
 
   -- words that begin with the words up to a wrong word are refused at the same word
   module _ (constants columns r p : ℕ) (h : p < q) where
-    by-outcome : find ws constants columns r ≡ found 17 p 0 0 → Outcome ws constants columns r → find ws′ constants columns r ≡ found 17 p 0 0
+    by-outcome : find ws constants columns r ≡ refused MODEL p → Outcome ws constants columns r → find ws′ constants columns r ≡ refused MODEL p
     unfolding find findAfter
     by-outcome e (in-shared p′ a g) =
-        let z : p′ ≡ p = ap (λ f. f .place) (sym g ∙ e) in
+        let z : p′ ≡ p = ap (λ f. f .fault .place) (sym g ∙ e) in
         let a′ = whole-alike constants columns (λ i. i) 10 r 0 0 (Bad p′) a (omega arith) in
         rw (a′, z)
     by-outcome e (in-rows s at k u v p′ a b g) =
-        let z : p′ ≡ p = ap (λ f. f .place) (sym g ∙ e) in
+        let z : p′ ≡ p = ap (λ f. f .fault .place) (sym g ∙ e) in
         let l = parts-forward ws constants columns (λ i. s) 11 r (length ws) 0 at k 0 0 in
         let l′ : suc at ≤ suc p′ = rw b at l in
         let a′ = whole-alike constants columns (λ i. i) 10 r 0 0 (Stop s at k u v) a (omega arith) in
         let b′ = whole-alike constants columns (λ i. s) 11 r at k (Bad p′) b (omega arith) in
         rw (a′, b′, z)
     by-outcome e (in-end s at k u v n c d x y p′ a b w g) =
-        let z : p′ ≡ p = ap (λ f. f .place) (sym g ∙ e) in
+        let z : p′ ≡ p = ap (λ f. f .fault .place) (sym g ∙ e) in
         let l = parts-forward ws constants columns (λ i. s) 11 r (length ws) 0 at k 0 0 in
         let l′ : suc at ≤ suc c = rw b at l in
         let (m, w′) = end-alike constants columns s c d p′ w (omega arith) in
         let a′ = whole-alike constants columns (λ i. i) 10 r 0 0 (Stop s at k u v) a (omega arith) in
         let b′ = whole-alike constants columns (λ i. s) 11 r at k (Stop n c d x y) b (omega arith) in
         rw (a′, b′, w′, z)
-    by-outcome e (passed s at k u v n c d x y i j a b w g) = absurd (never-both (ltb r n) n x y (ap (λ f. f .number) (sym g ∙ e)))
+    by-outcome e (passed s at k u v n c d x y i j a b w g) = absurd (never-both (ltb r n) n x y (ap (λ f. f .fault .number) (sym g ∙ e)))
 
-    pub refused-alike : find ws constants columns r ≡ found 17 p 0 0 → find ws′ constants columns r ≡ found 17 p 0 0
+    pub refused-alike : find ws constants columns r ≡ refused MODEL p → find ws′ constants columns r ≡ refused MODEL p
     refused-alike e = by-outcome e (outcome ws constants columns r)
 
 -- what was read, but for where part r stands
@@ -269,23 +271,23 @@ module _ (ws : List ℕ) (constants columns r r′ : ℕ) where
       go true (Wrong p) rec = refl
       go false x rec = refl
 
-  other-row : (p : ℕ) → find ws constants columns r ≡ found 17 p 0 0 → Outcome ws constants columns r → find ws constants columns r′ ≡ found 17 p 0 0
+  other-row : (p : ℕ) → find ws constants columns r ≡ refused MODEL p → Outcome ws constants columns r → find ws constants columns r′ ≡ refused MODEL p
   unfolding find findAfter
   other-row p e (in-shared p′ a g) =
-      let z : p′ ≡ p = ap (λ f. f .place) (sym g ∙ e) in
+      let z : p′ ≡ p = ap (λ f. f .fault .place) (sym g ∙ e) in
       let a′ = plain-bad (readParts ws constants columns (λ i. i) 10 r′ (length ws) 0 0 0 0 0) p′ (sym (any-part (λ i. i) 10 (length ws) 0 0 0 0 0 0 0) ∙ ap plain a) in
       rw (a′, z)
   other-row p e (in-rows s at k u v p′ a b g) =
-      let z : p′ ≡ p = ap (λ f. f .place) (sym g ∙ e) in
+      let z : p′ ≡ p = ap (λ f. f .fault .place) (sym g ∙ e) in
       let (u′, v′, a′) = plain-stop (readParts ws constants columns (λ i. i) 10 r′ (length ws) 0 0 0 0 0) s at k (sym (any-part (λ i. i) 10 (length ws) 0 0 0 0 0 0 0) ∙ ap plain a) in
       let b′ = plain-bad (readParts ws constants columns (λ i. s) 11 r′ (length ws) 0 at k 0 0) p′ (sym (any-part (λ i. s) 11 (length ws) 0 at k 0 0 0 0) ∙ ap plain b) in
       rw (a′, b′, z)
   other-row p e (in-end s at k u v n c d x y p′ a b w g) =
-      let z : p′ ≡ p = ap (λ f. f .place) (sym g ∙ e) in
+      let z : p′ ≡ p = ap (λ f. f .fault .place) (sym g ∙ e) in
       let (u′, v′, a′) = plain-stop (readParts ws constants columns (λ i. i) 10 r′ (length ws) 0 0 0 0 0) s at k (sym (any-part (λ i. i) 10 (length ws) 0 0 0 0 0 0 0) ∙ ap plain a) in
       let (x′, y′, b′) = plain-stop (readParts ws constants columns (λ i. s) 11 r′ (length ws) 0 at k 0 0) n c d (sym (any-part (λ i. s) 11 (length ws) 0 at k 0 0 0 0) ∙ ap plain b) in
       rw (a′, b′, w, z)
-  other-row p e (passed s at k u v n c d x y i j a b w g) = absurd (never-both (ltb r n) n x y (ap (λ f. f .number) (sym g ∙ e)))
+  other-row p e (passed s at k u v n c d x y i j a b w g) = absurd (never-both (ltb r n) n x y (ap (λ f. f .fault .number) (sym g ∙ e)))
 
-  pub refused-any-row : (p : ℕ) → find ws constants columns r ≡ found 17 p 0 0 → find ws constants columns r′ ≡ found 17 p 0 0
+  pub refused-any-row : (p : ℕ) → find ws constants columns r ≡ refused MODEL p → find ws constants columns r′ ≡ refused MODEL p
   refused-any-row p e = other-row p e (outcome ws constants columns r)

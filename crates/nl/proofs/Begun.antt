@@ -16,7 +16,8 @@ use Rattle.nl.specs.declared.Parts.the-variants.{Stop, Bad}
 use Rattle.nl.specs.Expr.{Expr, constant, column, shared, over, Terms, none, more, count, loadFor, constants, constantsOf, next, words, wordsOf, HasWords, HasWordsOf, depth, depthOf, Names, NamesOf}
 use Rattle.nl.specs.File.{Model, partWords, atRows, atObjective, modelWords, modelConstants, Ruled, PartsRuled, StandsWithin, depthLimit}
 use Rattle.nl.specs.Reader.{wordOk, arity, uses, after, many, readExpr, isMark, thenParts, readParts, readLast, readEnd}
-use Rattle.nl.specs.Finder.{found, find}
+use Rattle.base.specs.Refusal.{MODEL}
+use Rattle.nl.specs.Finder.{refused, find}
 use Rattle.nl.proofs.Words.{Operands, takes, leaf-arity}
 use Rattle.nl.proofs.Steps.{spelled, uses-none}
 use Rattle.nl.proofs.Sound.{Stands, Word, is-constant, is-column, is-shared, is-over, which, here, sound}
@@ -452,20 +453,20 @@ module _ (ws cs : List ℕ) (columns columns′ r p : ℕ) (le : columns ≤ col
           (omega (arith, S .ends, R-ends, E .ends, length-append u (v ++ E .front), length-append v (E .front)))
           (omega (arith, E .few, length-append (constantsOf (S .parts)) (constantsOf (R .parts) ++ constants (E .objective)), length-append (constantsOf (R .parts)) (constants (E .objective))))
 
-  by-outcome : find ws (length cs) columns r ≡ found 17 p 0 0 → Outcome ws (length cs) columns r → Begins ws (length cs) columns′ p
+  by-outcome : find ws (length cs) columns r ≡ refused MODEL p → Outcome ws (length cs) columns r → Begins ws (length cs) columns′ p
   by-outcome e (in-shared p′ q g) =
-      let z : p′ ≡ p = ap (λ f. f .place) (sym g ∙ e) in
+      let z : p′ ≡ p = ap (λ f. f .fault .place) (sym g ∙ e) in
       by-shared (parts-begun ws cs columns columns′ (λ i. i) 10 r le some (length ws) 0 0 0 0 0 p (q ∙ ap Bad z) (omega arith))
   by-outcome e (in-rows s a b u v p′ q q′ g) =
-      let z : p′ ≡ p = ap (λ f. f .place) (sym g ∙ e) in
+      let z : p′ ≡ p = ap (λ f. f .fault .place) (sym g ∙ e) in
       let S = parts-sound ws cs columns (λ i. i) 10 r (length ws) 0 0 0 s a b 0 0 u v q in
       by-rows s a b S (parts-begun ws cs columns columns′ (λ i. s) 11 r le some (length ws) 0 a b 0 0 p (q′ ∙ ap Bad z) (below s a b S))
   by-outcome e (in-end s a b u v n c d x y p′ q q′ q″ g) =
-      let z : p′ ≡ p = ap (λ f. f .place) (sym g ∙ e) in
+      let z : p′ ≡ p = ap (λ f. f .fault .place) (sym g ∙ e) in
       let S = parts-sound ws cs columns (λ i. i) 10 r (length ws) 0 0 0 s a b 0 0 u v q in
       let R = parts-sound ws cs columns (λ i. s) 11 r (length ws) 0 a b n c d 0 0 x y q′ in
       by-end s a b S n c d R (end-begun ws cs columns columns′ s le some c d p (q″ ∙ ap Wrong z) (below-rows s a b S n c d R))
-  by-outcome e (passed s a b u v n c d x y i j q q′ q″ g) = absurd (never-both (ltb r n) n x y (ap (λ f. f .number) (sym g ∙ e)))
+  by-outcome e (passed s a b u v n c d x y i j q q′ q″ g) = absurd (never-both (ltb r n) n x y (ap (λ f. f .fault .number) (sym g ∙ e)))
 
-  pub begun-file : find ws (length cs) columns r ≡ found 17 p 0 0 → Begins ws (length cs) columns′ p
+  pub begun-file : find ws (length cs) columns r ≡ refused MODEL p → Begins ws (length cs) columns′ p
   begun-file e = by-outcome e (outcome ws (length cs) columns r)

@@ -5,11 +5,17 @@ use Prim.Native.Nat.{ℕ}
 use lib.Dec.{T, eqb}
 use lib.ListN.{take}
 use Rattle.nl.specs.Reader.{wordOk, arity, uses, readHead, readExpr, isMark, readParts, readLast, readEnd}
-use Rattle.nl.specs.Finder.{findAfter, find, findRow, rowStart, rowLength}
+use Rattle.nl.specs.Finder.{findAfter, find, rowStart, rowLength}
 
 -- Depot M's words; it has 6 constants and 4 columns
 abbrev depotM : List ℕ
-depotM = 0xA0000000 ∷ 0x60000000 ∷ 0x10000001 ∷ 0xB0000000 ∷ 0x90000003 ∷ 0x00000000 ∷ 0x50000000 ∷ 0x00000001 ∷ 0x20000000 ∷ 0x10000002 ∷ 0xB0000001 ∷ 0x90000003 ∷ 0x00000002 ∷ 0x50000000 ∷ 0x00000003 ∷ 0x20000000 ∷ 0x10000003 ∷ 0xB0000002 ∷ 0x10000000 ∷ 0xC0000000 ∷ 0x90000002 ∷ 0x50000000 ∷ 0x00000004 ∷ 0x60000000 ∷ 0x10000002 ∷ 0x50000000 ∷ 0x00000005 ∷ 0x10000002 ∷ 0xD0000000 ∷ []
+depotM =
+    0xA0000000 ∷ 0x60000000 ∷ 0x10000001
+    ∷ 0xB0000000 ∷ 0x90000003 ∷ 0x00000000 ∷ 0x50000000 ∷ 0x00000001 ∷ 0x20000000 ∷ 0x10000002
+    ∷ 0xB0000001 ∷ 0x90000003 ∷ 0x00000002 ∷ 0x50000000 ∷ 0x00000003 ∷ 0x20000000 ∷ 0x10000003
+    ∷ 0xB0000002 ∷ 0x10000000
+    ∷ 0xC0000000 ∷ 0x90000002 ∷ 0x50000000 ∷ 0x00000004 ∷ 0x60000000 ∷ 0x10000002 ∷ 0x50000000 ∷ 0x00000005 ∷ 0x10000002
+    ∷ 0xD0000000 ∷ []
 
 -- eight squares, one in the other, and a leaf
 abbrev nineDeep : List ℕ
@@ -30,10 +36,10 @@ case ws cs columns r number place start long =
     record { words = ws; constants = cs; columns = columns; row = r; number = number; place = place; start = start; long = long }
 
 right : Case → Bool
-unfolding findRow rowStart rowLength
+unfolding rowStart rowLength
 right c =
-    cond (eqb (findRow (c .words) (c .constants) (c .columns) (c .row) .number) (c .number))
-    (cond (eqb (findRow (c .words) (c .constants) (c .columns) (c .row) .place) (c .place))
+    cond (eqb (find (c .words) (c .constants) (c .columns) (c .row) .fault .number) (c .number))
+    (cond (eqb (find (c .words) (c .constants) (c .columns) (c .row) .fault .place) (c .place))
     (cond (eqb (rowStart (c .words) (c .constants) (c .columns) (c .row)) (c .start))
     (eqb (rowLength (c .words) (c .constants) (c .columns) (c .row)) (c .long)) false) false) false
 
@@ -51,5 +57,5 @@ cases =
     case nineDeep 0 1 0 17 9 0 0 ∷ case (take 9 nineDeep) 0 1 0 17 9 0 0 ∷ case (0xC0000000 ∷ 0x10000000 ∷ 0xD0000000 ∷ []) 1 1 0 17 2 0 0 ∷ case (0xC0000000 ∷ 0x10000000 ∷ []) 1 1 0 17 2 0 0 ∷ case [] 0 0 0 17 0 0 0 ∷ []
 
 all-right : T (all cases)
-unfolding all right cases findRow rowStart rowLength find findAfter wordOk arity uses readHead readExpr isMark readParts readLast readEnd
+unfolding all right cases rowStart rowLength find findAfter wordOk arity uses readHead readExpr isMark readParts readLast readEnd
 all-right = tt

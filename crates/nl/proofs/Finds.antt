@@ -16,7 +16,8 @@ use Rattle.nl.specs.declared.Found.{Found}
 use Rattle.nl.specs.Expr.{Expr, Terms, none, more, count, constants, constantsOf, next, words}
 use Rattle.nl.specs.File.{Model, partWords, atRows, atObjective, modelWords, modelConstants, Ruled, PartsRuled, depthLimit, StandsFor, join, IsRow}
 use Rattle.nl.specs.Reader.{isMark, readParts, readLast, readEnd}
-use Rattle.nl.specs.Finder.{found, findAfter, find, rowWords}
+use Rattle.base.specs.Refusal.{MODEL, ROW}
+use Rattle.nl.specs.Finder.{found, refused, findAfter, find, rowWords}
 use Rattle.nl.proofs.Build.{drop-past, getD-here}
 use Rattle.nl.proofs.Complete.{complete}
 use Rattle.nl.proofs.Sound.{some-words}
@@ -40,7 +41,8 @@ count-le kind i k none = omega arith
 count-le kind i k (more e ts) = omega (arith, count-le kind (i + 1) (next k e) ts, length-append (words k e) (partWords kind (i + 1) (next k e) ts))
 
 -- all the parts of one kind
-all : (ws cs : List ℕ) (columns : ℕ) (named : ℕ → ℕ) (kind r at k : ℕ) (ts : Terms) (rest rest′ : List ℕ) → PartsRuled depthLimit columns named 0 k ts → at ≤ length ws → drop at ws ≡ partWords kind 0 k ts ++ rest → drop k cs ≡ constantsOf ts ++ rest′ → Other kind rest
+all : (ws cs : List ℕ) (columns : ℕ) (named : ℕ → ℕ) (kind r at k : ℕ) (ts : Terms) (rest rest′ : List ℕ) → PartsRuled depthLimit columns named 0 k ts
+    → at ≤ length ws → drop at ws ≡ partWords kind 0 k ts ++ rest → drop k cs ≡ constantsOf ts ++ rest′ → Other kind rest
     → readParts ws (length cs) columns named kind r (length ws) 0 at k 0 0 ≡ Stop (count ts) (at + length (partWords kind 0 k ts)) (k + length (constantsOf ts)) (markIn startOf r 0 at k ts 0) (markIn endOf r 0 at k ts 0)
 all ws cs columns named kind r at k ts rest rest′ h l p q o =
     rw zero-add at (parts-complete ws cs columns named kind r ts (length ws) 0 at k 0 0 rest rest′ h
@@ -89,7 +91,7 @@ module _ (ws cs : List ℕ) (columns : ℕ) (M : Model) (S : StandsFor ws cs col
 
   -- the finder reads to the end, and then goes by the number of rows
   pub finds : (r : ℕ) → find ws (length cs) columns r
-      ≡ cond (ltb r (count (M .rows))) (found 0 0 (markIn startOf r 0 (rowsFrom M) (atRows M) (M .rows) 0) (markIn endOf r 0 (rowsFrom M) (atRows M) (M .rows) 0)) (found 18 (count (M .rows)) 0 0)
+      ≡ cond (ltb r (count (M .rows))) (found (markIn startOf r 0 (rowsFrom M) (atRows M) (M .rows) 0) (markIn endOf r 0 (rowsFrom M) (atRows M) (M .rows) 0)) (refused ROW (count (M .rows)))
   unfolding modelWords modelConstants find findAfter
   finds r =
       let a = rw (zero-add, zero-add) at (all ws cs columns (λ i. i) 10 r 0 0 (M .shared) _ _ (S .shared-ruled) (omega arith) (S .its-words) (S .its-constants) (other-shared _ (M .rows) _)) in
@@ -100,7 +102,7 @@ module _ (ws cs : List ℕ) (columns : ℕ) (M : Model) (S : StandsFor ws cs col
       (drop-past (rowsFrom M) ws (partWords 11 0 (atRows M) (M .rows)) _ rows-words) (drop-past (atRows M) cs (constantsOf (M .rows)) _ rows-values ∙ sym (append-nil _)) kl in
       rw (a, b, e)
 
-  pub past : (r : ℕ) → count (M .rows) ≤ r → find ws (length cs) columns r ≡ found 18 (count (M .rows)) 0 0
+  pub past : (r : ℕ) → count (M .rows) ≤ r → find ws (length cs) columns r ≡ refused ROW (count (M .rows))
   past r h = finds r ∙ rw (le-ltb r (count (M .rows)) h)
 
   module _ (r start k : ℕ) (e : Expr) (R : IsRow M r start k e) where
@@ -114,7 +116,7 @@ module _ (ws cs : List ℕ) (columns : ℕ) (M : Model) (S : StandsFor ws cs col
         ∙ ap (λ x. partWords 11 0 (atRows M) ps ++ (word 11 (0 + count ps) ∷ x)) (append-assoc (words k e) _ (pastRows M)) in
         rw (R .begins) (drop-past (rowsFrom M + length (partWords 11 0 (atRows M) ps)) ws (word 11 (0 + count ps) ∷ []) _ (drop-past (rowsFrom M) ws (partWords 11 0 (atRows M) ps) _ w))
 
-    pub answers : find ws (length cs) columns r ≡ found 0 0 start (start + length (words k e))
+    pub answers : find ws (length cs) columns r ≡ found start (start + length (words k e))
     answers =
         let lt : r < count (M .rows) = omega (arith, ap count (R .rows), count-join (R .earlier) (more e (R .later)), R .number) in
         let n : r ≡ 0 + count (R .earlier) = R .number ∙ sym (zero-add _) in
@@ -167,8 +169,8 @@ one-row M r start start′ k k′ e e′ R R′ =
 
 -- the finder's answer, by whether there is such a row
 pub data Answer (ws cs : List ℕ) (columns r : ℕ) (M : Model) : Type 0 where
-  row-at : (start k : ℕ) (e : Expr) → IsRow M r start k e → r < count (M .rows) → find ws (length cs) columns r ≡ found 0 0 start (start + length (words k e)) → Answer ws cs columns r M
-  no-such : count (M .rows) ≤ r → find ws (length cs) columns r ≡ found 18 (count (M .rows)) 0 0 → Answer ws cs columns r M
+  row-at : (start k : ℕ) (e : Expr) → IsRow M r start k e → r < count (M .rows) → find ws (length cs) columns r ≡ found start (start + length (words k e)) → Answer ws cs columns r M
+  no-such : count (M .rows) ≤ r → find ws (length cs) columns r ≡ refused ROW (count (M .rows)) → Answer ws cs columns r M
 
 pub answer : (ws cs : List ℕ) (columns r : ℕ) (M : Model) → StandsFor ws cs columns M → Answer ws cs columns r M
 answer ws cs columns r M S = go (ltb r (count (M .rows))) refl
@@ -181,37 +183,37 @@ answer ws cs columns r M S = go (ltb r (count (M .rows))) refl
     go false h = let le = ltb-false r (count (M .rows)) h in no-such le (past ws cs columns M S r le)
 
 -- the finder says 17 of no file that stands for a model
-pub never-17 : (ws cs : List ℕ) (columns r : ℕ) (M : Model) → StandsFor ws cs columns M → find ws (length cs) columns r .number ≡ 17 → ⊥
+pub never-17 : (ws cs : List ℕ) (columns r : ℕ) (M : Model) → StandsFor ws cs columns M → find ws (length cs) columns r .fault .number ≡ MODEL → ⊥
 never-17 ws cs columns r M S e = go (answer ws cs columns r M S)
   where
     go : Answer ws cs columns r M → ⊥
-    go (row-at start k x R lt f) = omega (arith, ap (λ y. y .number) f)
-    go (no-such le f) = omega (arith, ap (λ y. y .number) f)
+    go (row-at start k x R lt f) = omega (arith, ap (λ y. y .fault .number) f)
+    go (no-such le f) = omega (arith, ap (λ y. y .fault .number) f)
 
 -- what the finder answers lies inside the words
 abbrev pub Inside : List ℕ → Found → Type 0
 Inside ws f = (f .start ≤ f .end) × (f .end ≤ length ws)
 
-pub never-both : (b : Bool) (n x y : ℕ) → cond b (found 0 0 x y) (found 18 n 0 0) .number ≡ 17 → ⊥
+pub never-both : (b : Bool) (n x y : ℕ) → cond b (found x y) (refused ROW n) .fault .number ≡ MODEL → ⊥
 never-both true n x y e = omega arith
 never-both false n x y e = omega arith
 
 module _ (ws : List ℕ) (constants columns r : ℕ) (f : Found) (e : f ≡ find ws constants columns r) where
-  nowhere : (n p : ℕ) → find ws constants columns r ≡ found n p 0 0 → Inside ws f
+  nowhere : (n p : ℕ) → find ws constants columns r ≡ refused n p → Inside ws f
   nowhere n p q = let z = e ∙ q in (omega (arith, ap (λ y. y .start) z, ap (λ y. y .end) z), omega (arith, ap (λ y. y .end) z))
 
   by-answer : (cs : List ℕ) (M : Model) → constants ≡ length cs → StandsFor ws cs columns M → Answer ws cs columns r M → Inside ws f
   by-answer cs M len S (row-at start k x R lt q) =
-      let z : f ≡ found 0 0 start (start + length (words k x)) = e ∙ ap (λ n. find ws n columns r) len ∙ q in
+      let z : f ≡ found start (start + length (words k x)) = e ∙ ap (λ n. find ws n columns r) len ∙ q in
       (omega (arith, ap (λ y. y .start) z, ap (λ y. y .end) z), omega (arith, ap (λ y. y .end) z, row-inside ws cs columns M S r start k x R))
-  by-answer cs M len S (no-such le q) = nowhere 18 (count (M .rows)) (ap (λ n. find ws n columns r) len ∙ q)
+  by-answer cs M len S (no-such le q) = nowhere ROW (count (M .rows)) (ap (λ n. find ws n columns r) len ∙ q)
 
   by-outcome : (cs : List ℕ) → constants ≡ length cs → Outcome ws constants columns r → Inside ws f
-  by-outcome cs len (in-shared p q g) = nowhere 17 p g
-  by-outcome cs len (in-rows s a b u v p q q′ g) = nowhere 17 p g
-  by-outcome cs len (in-end s a b u v n c d x y p q q′ q″ g) = nowhere 17 p g
+  by-outcome cs len (in-shared p q g) = nowhere MODEL p g
+  by-outcome cs len (in-rows s a b u v p q q′ g) = nowhere MODEL p g
+  by-outcome cs len (in-end s a b u v n c d x y p q q′ q″ g) = nowhere MODEL p g
   by-outcome cs len (passed s a b u v n c d x y i j first second third g) =
-      let (M, S) = file-sound ws cs columns r (λ z. never-both (ltb r n) n x y (ap (λ w. w .number) (sym g) ∙ ap (λ m. find ws m columns r .number) len ∙ z)) in
+      let (M, S) = file-sound ws cs columns r (λ z. never-both (ltb r n) n x y (ap (λ w. w .fault .number) (sym g) ∙ ap (λ m. find ws m columns r .fault .number) len ∙ z)) in
       by-answer cs M len S (answer ws cs columns r M S)
 
   pub inside-words : Inside ws f

@@ -18,7 +18,8 @@ use Rattle.nl.specs.declared.Parts.the-variants.{Stop, Bad}
 use Rattle.nl.specs.Expr.{loadLimit, Expr, Terms, none, more, count, constants, constantsOf, next, words}
 use Rattle.nl.specs.File.{Model, partWords, atObjective, modelWords, modelConstants, Ruled, PartsRuled, depthLimit, StandsFor}
 use Rattle.nl.specs.Reader.{after, readExpr, isMark, thenParts, readParts, readLast, readEnd}
-use Rattle.nl.specs.Finder.{found, findAfter, find}
+use Rattle.base.specs.Refusal.{MODEL, ROW}
+use Rattle.nl.specs.Finder.{found, refused, findAfter, find}
 use Rattle.nl.proofs.Sound.{went-cond, went-after, sound}
 use Rattle.nl.proofs.PartSteps.{marked}
 
@@ -102,13 +103,13 @@ end-sound ws cs columns shared at k end after′ p =
 
 -- how far the reader went in a file that the finder refuses with 17, and that it went to the end in any other
 pub data Outcome (ws : List ℕ) (limit columns r : ℕ) : Type 0 where
-  in-shared : (p : ℕ) → readParts ws limit columns (λ i. i) 10 r (length ws) 0 0 0 0 0 ≡ Bad p → find ws limit columns r ≡ found 17 p 0 0 → Outcome ws limit columns r
+  in-shared : (p : ℕ) → readParts ws limit columns (λ i. i) 10 r (length ws) 0 0 0 0 0 ≡ Bad p → find ws limit columns r ≡ refused MODEL p → Outcome ws limit columns r
   in-rows : (s a b u v p : ℕ) → readParts ws limit columns (λ i. i) 10 r (length ws) 0 0 0 0 0 ≡ Stop s a b u v → readParts ws limit columns (λ i. s) 11 r (length ws) 0 a b 0 0 ≡ Bad p
-      → find ws limit columns r ≡ found 17 p 0 0 → Outcome ws limit columns r
+      → find ws limit columns r ≡ refused MODEL p → Outcome ws limit columns r
   in-end : (s a b u v n c d x y p : ℕ) → readParts ws limit columns (λ i. i) 10 r (length ws) 0 0 0 0 0 ≡ Stop s a b u v → readParts ws limit columns (λ i. s) 11 r (length ws) 0 a b 0 0 ≡ Stop n c d x y
-      → readEnd ws limit columns s c d ≡ Wrong p → find ws limit columns r ≡ found 17 p 0 0 → Outcome ws limit columns r
+      → readEnd ws limit columns s c d ≡ Wrong p → find ws limit columns r ≡ refused MODEL p → Outcome ws limit columns r
   passed : (s a b u v n c d x y e f : ℕ) → readParts ws limit columns (λ i. i) 10 r (length ws) 0 0 0 0 0 ≡ Stop s a b u v → readParts ws limit columns (λ i. s) 11 r (length ws) 0 a b 0 0 ≡ Stop n c d x y
-      → readEnd ws limit columns s c d ≡ Went e f → find ws limit columns r ≡ cond (ltb r n) (found 0 0 x y) (found 18 n 0 0) → Outcome ws limit columns r
+      → readEnd ws limit columns s c d ≡ Went e f → find ws limit columns r ≡ cond (ltb r n) (found x y) (refused ROW n) → Outcome ws limit columns r
 
 module _ (ws : List ℕ) (limit columns r : ℕ) where
   by-end : (s a b u v n c d x y : ℕ) → readParts ws limit columns (λ i. i) 10 r (length ws) 0 0 0 0 0 ≡ Stop s a b u v → readParts ws limit columns (λ i. s) 11 r (length ws) 0 a b 0 0 ≡ Stop n c d x y
@@ -132,14 +133,14 @@ module _ (ws : List ℕ) (limit columns r : ℕ) where
   outcome = by-shared (readParts ws limit columns (λ i. i) 10 r (length ws) 0 0 0 0 0) refl
 
 -- a file that the finder does not refuse with 17 stands for a model
-pub file-sound : (ws cs : List ℕ) (columns r : ℕ) → ¬ (find ws (length cs) columns r .number ≡ 17) → (M : Model) × StandsFor ws cs columns M
+pub file-sound : (ws cs : List ℕ) (columns r : ℕ) → ¬ (find ws (length cs) columns r .fault .number ≡ MODEL) → (M : Model) × StandsFor ws cs columns M
 unfolding modelWords modelConstants
 file-sound ws cs columns r h = go (outcome ws (length cs) columns r)
   where
     go : Outcome ws (length cs) columns r → (M : Model) × StandsFor ws cs columns M
-    go (in-shared p q f) = absurd (h (ap (λ x. x .number) f))
-    go (in-rows s a b u v p q q′ f) = absurd (h (ap (λ x. x .number) f))
-    go (in-end s a b u v n c d x y p q q′ q″ f) = absurd (h (ap (λ x. x .number) f))
+    go (in-shared p q f) = absurd (h (ap (λ x. x .fault .number) f))
+    go (in-rows s a b u v p q q′ f) = absurd (h (ap (λ x. x .fault .number) f))
+    go (in-end s a b u v n c d x y p q q′ q″ f) = absurd (h (ap (λ x. x .fault .number) f))
     go (passed s a b u v n c d x y e f first second third g) =
         let S = parts-sound ws cs columns (λ i. i) 10 r (length ws) 0 0 0 s a b 0 0 u v first in
         let k1 : b ≡ length (constantsOf (S .parts)) = S .then ∙ zero-add _ in

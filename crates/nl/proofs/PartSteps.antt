@@ -15,7 +15,8 @@ use Rattle.nl.specs.declared.Parts.the-variants.{Stop, Bad}
 use Rattle.nl.specs.declared.Found.{Found}
 use Rattle.nl.specs.File.{depthLimit}
 use Rattle.nl.specs.Reader.{readExpr, isMark, thenParts, readParts, readLast, readEnd}
-use Rattle.nl.specs.Finder.{found, findAfter, find}
+use Rattle.base.specs.Refusal.{MODEL, ROW}
+use Rattle.nl.specs.Finder.{found, refused, findAfter, find}
 
 pub both-true : (b c : Bool) → cond b c false ≡ true → (b ≡ true) × (c ≡ true)
 both-true true c e = (refl, e)
@@ -72,21 +73,21 @@ module _ (ws : List ℕ) (constants columns shared at k : ℕ) (ok : Bool) (p : 
 
 -- the finder's ways out, by what was read on the way
 module _ (ws : List ℕ) (constants columns r shared at k : ℕ) (s : Parts) (e : s ≡ readParts ws constants columns (λ i. shared) 11 r (length ws) 0 at k 0 0) where
-  pub rows-bad : (p : ℕ) → s ≡ Bad p → found 17 p 0 0 ≡ findAfter ws constants columns r shared at k
+  pub rows-bad : (p : ℕ) → s ≡ Bad p → refused MODEL p ≡ findAfter ws constants columns r shared at k
   unfolding findAfter
   rows-bad p g = rw (← e, g)
 
   module _ (rows a b start end : ℕ) (g : s ≡ Stop rows a b start end) (x : Read) (l : x ≡ readEnd ws constants columns shared a b) where
-    pub end-bad : (p : ℕ) → x ≡ Wrong p → found 17 p 0 0 ≡ findAfter ws constants columns r shared at k
+    pub end-bad : (p : ℕ) → x ≡ Wrong p → refused MODEL p ≡ findAfter ws constants columns r shared at k
     unfolding findAfter
     end-bad p y = rw (← e, g, ← l, y)
 
-    pub end-good : (u v : ℕ) (f : Found) → x ≡ Went u v → f ≡ cond (ltb r rows) (found 0 0 start end) (found 18 rows 0 0) → f ≡ findAfter ws constants columns r shared at k
+    pub end-good : (u v : ℕ) (f : Found) → x ≡ Went u v → f ≡ cond (ltb r rows) (found start end) (refused ROW rows) → f ≡ findAfter ws constants columns r shared at k
     unfolding findAfter
     end-good u v f y h = rw (← e, g, ← l, y) h
 
 module _ (ws : List ℕ) (constants columns r : ℕ) (s : Parts) (e : s ≡ readParts ws constants columns (λ i. i) 10 r (length ws) 0 0 0 0 0) where
-  pub shared-bad : (p : ℕ) → s ≡ Bad p → found 17 p 0 0 ≡ find ws constants columns r
+  pub shared-bad : (p : ℕ) → s ≡ Bad p → refused MODEL p ≡ find ws constants columns r
   unfolding find
   shared-bad p g = rw (← e, g)
 

@@ -6,7 +6,8 @@ use lib.ListN.{length}
 use Rattle.base.specs.Word.{word}
 use Rattle.nl.specs.Expr.{loadLimit, Expr, Terms, none, more, count, constants, constantsOf, next, words, HasWords, depth, Names}
 
--- shared parts, rows and an objective. Two are the same when they are equal: lengths of lists, kinds, numbers, bits and counts of operands at every place.
+-- shared parts, rows and an objective. Two are the same when they are equal: lengths of lists, kinds, numbers, bits and counts of operands
+-- at every place.
 pub record Model : Type 0 where
   pub shared : Terms
   pub rows : Terms
@@ -24,16 +25,19 @@ atRows M = length (constantsOf (M .shared))
 abbrev pub atObjective : Model → ℕ
 atObjective M = atRows M + length (constantsOf (M .rows))
 
--- "its words are, in order, each shared part's beginning word and expression, the same for each row, 12 and the objective, 13, and nothing more"
+-- "its words are, in order, each shared part's beginning word and expression, the same for each row, 12 and the objective, 13, and
+-- nothing more"
 unfoldable pub modelWords : Model → List ℕ
 modelWords M =
-    partWords 10 0 0 (M .shared) ++ (partWords 11 0 (atRows M) (M .rows) ++ (word 12 0 ∷ words (atObjective M) (M .objective) ++ (word 13 0 ∷ [])))
+    partWords 10 0 0 (M .shared)
+    ++ (partWords 11 0 (atRows M) (M .rows) ++ (word 12 0 ∷ words (atObjective M) (M .objective) ++ (word 13 0 ∷ [])))
 
 -- "the constants list is exactly their values"
 unfoldable pub modelConstants : Model → List ℕ
 modelConstants M = constantsOf (M .shared) ++ (constantsOf (M .rows) ++ constants (M .objective))
 
--- "the rules on loads, names and depth", for an expression whose first constant has the number k and that may name the lowest `named` shared parts
+-- "the rules on loads, names and depth", for an expression whose first constant has the number k and that may name the lowest `named`
+-- shared parts
 pub record Ruled (deepest columns named k : ℕ) (e : Expr) : Type 0 where
   pub loads : HasWords k e
   pub names : Names columns named e
@@ -57,7 +61,8 @@ pub record StandsWithin (deepest : ℕ) (ws cs : List ℕ) (columns : ℕ) (M : 
 abbrev pub depthLimit : ℕ
 depthLimit = 8
 
--- the words, the constants' patterns and the number of columns stand for M. (A constant's load is below the number of constants because the list is exactly their values.)
+-- the words, the constants' patterns and the number of columns stand for M. (A constant's load is below the number of constants because
+-- the list is exactly their values.)
 abbrev pub StandsFor : List ℕ → List ℕ → ℕ → Model → Type 0
 StandsFor = StandsWithin depthLimit
 

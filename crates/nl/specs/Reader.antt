@@ -1,4 +1,5 @@
--- Document 01, refusal 17: reading from left to right, up to the first wrong word. What a file stands for is not said here but in File; that the two agree is proved.
+-- Document 01, refusal 17: reading from left to right, up to the first wrong word. What a file stands for is not said here but in File;
+-- that the two agree is proved.
 use Prim.Native.Nat.{ℕ, zero, suc, _+_}
 use mathlib.Core.Bool.{Bool, false, cond}
 use mathlib.Core.List.{List}
@@ -68,8 +69,9 @@ thenParts (Went at k) f = f at k
 thenParts (Wrong p) f = Bad p
 
 module _ (ws : List ℕ) (constants columns : ℕ) (named : ℕ → ℕ) (kind r : ℕ) where
-  -- the parts that begin with words of that kind, numbered from i, of which part i may name the lowest `named i` shared parts, up to a word that begins no such part.
-  -- `start` and `end` are of part r's expression, once it was read. (The first number bounds the parts; a part has words, so that there are no more parts than words.)
+  -- the parts that begin with words of that kind, numbered from i, of which part i may name the lowest `named i` shared parts, up to a
+  -- word that begins no such part. `start` and `end` are of part r's expression, once it was read. (The first number bounds the parts;
+  -- a part has words, so that there are no more parts than words.)
   unfoldable pub readParts : ℕ → ℕ → ℕ → ℕ → ℕ → ℕ → Parts
   readParts zero i at k start end = Stop i at k start end
   readParts (suc most) i at k start end =

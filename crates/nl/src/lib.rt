@@ -1,7 +1,7 @@
 // The model file: its one reading, the finder of a row, the row's part, and whether two models are the same.
 //
-// Time: each call of `read_expr` takes a word or ends the reading, and so does each turn of its loop, whose first step is such a call. A sum
-// that claims 2^28 terms stops where the words stop. Each part takes its beginning word. So the finder ends after steps in
+// Time: each call of `read_expr` takes a word or ends the reading, and so does each turn of its loop, whose first step is such a call.
+// A sum that claims 2^28 terms stops where the words stop. Each part takes its beginning word. So the finder ends after steps in
 // proportion to the words, whatever they are, and the calls nest 9 deep at most.
 use base::Fault;
 use base::refusal;
@@ -14,7 +14,8 @@ ghost use Prim.Native.Nat.{_+_, _*_};
 ghost use Rattle.base.specs.Fault.{packed};
 ghost use Rattle.base.specs.Refusal.{ROW};
 ghost use Rattle.nl.specs.Reader.{wordOk, arity, readHead, readExpr, isMark, readParts, readLast, readEnd};
-ghost use Rattle.nl.specs.Finder.{found, namedBy, findAfter, find, findRow, rowStart, rowLength, rowWords};
+ghost use Rattle.nl.specs.Finder.{found, refused, findAfter, find, rowStart, rowLength, rowWords};
+ghost use Rattle.nl.specs.contracts.Named.{namedBy};
 ghost use Rattle.nl.specs.Same.{agree, same};
 
 // How deep expressions nest; a leaf is 1.
@@ -204,7 +205,8 @@ fn read_parts(
     constants: usize,
     columns: usize,
 ) -> Parts
-    ensures { λ s. ⌜ s ≡ readParts (now (words .entry)) constants columns (namedBy kind shared) kind r (length (now (words .entry))) 0 from first 0 0 ⌝ }
+    ensures { λ s. ⌜ s ≡ readParts (now (words .entry)) constants columns (namedBy kind shared) kind r
+        (length (now (words .entry))) 0 from first 0 0 ⌝ }
 {
     let mut at = from;
     let mut next = first;
@@ -272,20 +274,18 @@ fn read_end(
     }
 }
 
-// A refusal's number and place, or 0 and 0 and where a row's expression starts and ends.
+// The refusal, clear where there is none, and where a row's expression starts and ends, 0 and 0 where it is refused.
 pub struct Found {
-    pub number: u32,
-    pub place: usize,
+    pub fault: Fault,
     pub start: usize,
     pub end: usize,
 }
 
 fn refused(number: u32, place: usize) -> Found
-    ensures { λ f. ⌜ f ≡ found number place 0 0 ⌝ }
+    ensures { λ f. ⌜ f ≡ refused number place ⌝ }
 {
     Found {
-        number,
-        place,
+        fault: Fault { number, place },
         start: 0,
         end: 0,
     }
@@ -293,14 +293,13 @@ fn refused(number: u32, place: usize) -> Found
 
 // Row r of so many, where there is one.
 fn row_of(r: usize, rows: usize, start: usize, end: usize) -> Found
-    ensures { λ f. ⌜ f ≡ cond (ltb r rows) (found 0 0 start end) (found ROW rows 0 0) ⌝ }
+    ensures { λ f. ⌜ f ≡ cond (ltb r rows) (found start end) (refused ROW rows) ⌝ }
 {
     if rows <= r {
         return refused(refusal::ROW, rows);
     }
     Found {
-        number: 0,
-        place: 0,
+        fault: refusal::CLEAR,
         start,
         end,
     }
@@ -360,25 +359,22 @@ fn find(words: &[u32], constants: usize, columns: usize, r: usize) -> Found
 // 17 and the first wrong word where the file does not pass reading, else 18 and the number of rows where there is no row r,
 // else 0 and 0.
 pub fn find_row(words: &[u32], constants: usize, columns: usize, r: usize) -> Fault
-    ensures { λ f. ⌜ f ≡ findRow (now (words .entry)) constants columns r ⌝ }
+    ensures { λ f. ⌜ f ≡ find (now (words .entry)) constants columns r .fault ⌝ }
 {
-    let f = find(words, constants, columns, r);
-    Fault {
-        number: f.number,
-        place: f.place,
-    }
+    let found = find(words, constants, columns, r);
+    found.fault
 }
 
-// The words of row r's expression, where they stand; none where it is refused. The slice is the part of the lent words that starts at word `rowStart`:
-// the same memory, 4 bytes a word further on.
+// The words of row r's expression, where they stand; none where it is refused. The slice is the part of the lent words that starts
+// at word `rowStart`: the same memory, 4 bytes a word further on.
 pub fn row(words: &[u32], constants: usize, columns: usize, r: usize) -> &[u32]
     ensures { λ s. ⌜ (now s ≡ rowWords (now (words .entry)) constants columns r) × (s .ptr .0 ≡ words .entry .ptr .0)
         × (s .ptr .1 ≡ rowStart (now (words .entry)) constants columns r * 4 + words .entry .ptr .1) ⌝ }
 {
-    let f = find(words, constants, columns, r);
-    let a = f.start;
-    let e = f.end;
-    &words[a..e]
+    let found = find(words, constants, columns, r);
+    let start = found.start;
+    let end = found.end;
+    &words[start..end]
 }
 
 fn same_words(a: &[u32], b: &[u32]) -> bool
@@ -416,7 +412,8 @@ fn same_constants(x: &[f64], y: &[f64]) -> bool
 
 // Whether words are equal, and constants equal as numbers: -0 is 0, NaN is not NaN.
 pub fn same(words_a: &[u32], constants_a: &[f64], words_b: &[u32], constants_b: &[f64]) -> bool
-    ensures { λ ok. ⌜ ok ≡ same (now («words_a» .entry)) (now («constants_a» .entry)) (now («words_b» .entry)) (now («constants_b» .entry)) ⌝ }
+    ensures { λ ok. ⌜ ok ≡ same (now («words_a» .entry)) (now («constants_a» .entry))
+        (now («words_b» .entry)) (now («constants_b» .entry)) ⌝ }
 {
     if !same_words(words_a, words_b) {
         return false;
@@ -432,7 +429,7 @@ pub extern "C" fn fervoulk_find_row(
     columns: usize,
     r: usize,
 ) -> u64
-    ensures { λ n. ⌜ n ≡ packed (findRow (now (words .entry)) constants columns r) ⌝ }
+    ensures { λ n. ⌜ n ≡ packed (find (now (words .entry)) constants columns r .fault) ⌝ }
 {
     base::packed(find_row(words, constants, columns, r))
 }
@@ -447,8 +444,8 @@ pub extern "C" fn fervoulk_row_start(
 ) -> usize
     ensures { λ n. ⌜ n ≡ rowStart (now (words .entry)) constants columns r ⌝ }
 {
-    let part = find(words, constants, columns, r);
-    part.start
+    let found = find(words, constants, columns, r);
+    found.start
 }
 
 // For C: how long it is, 0 where it is refused.
@@ -461,8 +458,8 @@ pub extern "C" fn fervoulk_row_length(
 ) -> usize
     ensures { λ n. ⌜ n ≡ rowLength (now (words .entry)) constants columns r ⌝ }
 {
-    let part = find(words, constants, columns, r);
-    part.end - part.start
+    let found = find(words, constants, columns, r);
+    found.end - found.start
 }
 
 // For C: 1 where two models are the same, else 0.
@@ -473,7 +470,8 @@ pub extern "C" fn fervoulk_same(
     words_b: &[u32],
     constants_b: &[f64],
 ) -> u32
-    ensures { λ n. ⌜ n ≡ cond (same (now («words_a» .entry)) (now («constants_a» .entry)) (now («words_b» .entry)) (now («constants_b» .entry))) 1 0 ⌝ }
+    ensures { λ n. ⌜ n ≡ cond (same (now («words_a» .entry)) (now («constants_a» .entry))
+        (now («words_b» .entry)) (now («constants_b» .entry))) 1 0 ⌝ }
 {
     if same(words_a, constants_a, words_b, constants_b) {
         return 1;

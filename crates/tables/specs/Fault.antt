@@ -7,7 +7,9 @@ use Rattle.base.specs.declared.Fault.{Fault}
 use Rattle.base.specs.Fault.{fault, unless, orElse, first, Section, section, firstOf}
 use Rattle.base.specs.Refusal.{WORDS, SIZE, COUNT, BLANK, CURVE, SHIFT, BOUNDS, SPREAD, RATING, SQUARE}
 use Rattle.float.specs.Number.{_⊗_, zero64, isFinite}
-use Rattle.network.specs.Network.{buses, generators, branches, points, busAt, generatorAt, curveAt, branchAt, segments, number, power, vmBounded, capable, angled, limited, vmColumn, pgColumn, qgColumn, vmMin, vmMax, pMin, pMax, qMin, qMax, shift, angleMin, angleMax, sMax}
+use Rattle.network.specs.Network.{buses, generators, branches, points, busAt, generatorAt, curveAt, branchAt, segments, number, power}
+use Rattle.network.specs.Network.{vmBounded, capable, angled, limited, vmColumn, pgColumn, qgColumn}
+use Rattle.network.specs.Network.{vmMin, vmMax, pMin, pMax, qMin, qMax, shift, angleMin, angleMax, sMax}
 use Rattle.bounds.specs.Bounds.{boundsRight, angleRight}
 use Rattle.network.specs.Fault.{faultWords, faultSize, faultCount}
 
@@ -36,7 +38,8 @@ module _ (ws : List ℕ) (xs : List Float) where
   -- 7 bounds: buses, then pg, qg by generator; the column
   unfoldable pub faultBounds : Fault
   faultBounds =
-      orElse (first (buses ws) (λ i. unless (not (vmBounded ws i) || boundsRight (vmMin ws xs i) (vmMax ws xs i)) (fault BOUNDS (vmColumn ws i))))
+      orElse
+      (first (buses ws) (λ i. unless (not (vmBounded ws i) || boundsRight (vmMin ws xs i) (vmMax ws xs i)) (fault BOUNDS (vmColumn ws i))))
       (first (generators ws) (λ g.
       orElse (unless (not (capable ws g) || boundsRight (pMin ws xs g) (pMax ws xs g)) (fault BOUNDS (pgColumn ws g)))
       (unless (not (capable ws g) || boundsRight (qMin ws xs g) (qMax ws xs g)) (fault BOUNDS (qgColumn ws g)))))
@@ -52,7 +55,8 @@ module _ (ws : List ℕ) (xs : List Float) where
   faultSquare b = unless (not (limited ws b) || isFinite (sMax ws xs b ⊗ sMax ws xs b)) (fault SQUARE b)
 
   abbrev pub branchSections : ℕ → List Section
-  branchSections b = section (SPREAD ∷ []) (faultSpread b) ∷ section (RATING ∷ []) (faultRating b) ∷ section (SQUARE ∷ []) (faultSquare b) ∷ []
+  branchSections b =
+      section (SPREAD ∷ []) (faultSpread b) ∷ section (RATING ∷ []) (faultRating b) ∷ section (SQUARE ∷ []) (faultSquare b) ∷ []
 
   unfoldable pub branchFault : ℕ → Fault
   branchFault b = firstOf (branchSections b)
@@ -65,8 +69,8 @@ module _ (ws : List ℕ) (xs : List Float) where
   abbrev pub tableSections : List Section
   tableSections =
       section (WORDS ∷ []) (faultWords ws) ∷ section (SIZE ∷ []) (faultSize ws) ∷ section (COUNT ∷ []) (faultCount ws xs)
-      ∷ section (BLANK ∷ []) faultBlank ∷ section (CURVE ∷ []) faultCurve ∷ section (SHIFT ∷ []) faultShift ∷ section (BOUNDS ∷ []) faultBounds
-      ∷ section (SPREAD ∷ RATING ∷ SQUARE ∷ []) faultBranches ∷ []
+      ∷ section (BLANK ∷ []) faultBlank ∷ section (CURVE ∷ []) faultCurve ∷ section (SHIFT ∷ []) faultShift
+      ∷ section (BOUNDS ∷ []) faultBounds ∷ section (SPREAD ∷ RATING ∷ SQUARE ∷ []) faultBranches ∷ []
 
   -- the first of them
   unfoldable pub faultTables : Fault

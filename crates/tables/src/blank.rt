@@ -54,7 +54,8 @@ fn blank_buses(words: &[u32], numbers: &[f64], layout: Layout) -> Fault
 
 // q, c, c0 and the curve of the generator at the cursor.
 fn blank_generator(words: &[u32], numbers: &[f64], layout: Layout, cursor: Cursor) -> Fault
-    requires { ⌜ (Laid (now words) (now numbers) layout) × (Standing (now words) layout cursor) × (cursor .index < layout .generators) ⌝ }
+    requires { ⌜ (Laid (now words) (now numbers) layout) × (Standing (now words) layout cursor)
+        × (cursor .index < layout .generators) ⌝ }
     ensures { λ r. ⌜ r ≡ orElse (blanks (now (numbers .entry)) (generatorAt (now (words .entry)) (cursor .index) + 4) 3)
         (blanks (now (numbers .entry)) (curveAt (now (words .entry)) (cursor .index))
         (pointNumbers * points (now (words .entry)) (cursor .index))) ⌝ }
@@ -69,7 +70,8 @@ fn blank_generator(words: &[u32], numbers: &[f64], layout: Layout, cursor: Curso
 
 fn blank_generators(words: &[u32], numbers: &[f64], layout: Layout) -> Fault
     requires { ⌜ Laid (now words) (now numbers) layout ⌝ }
-    ensures { λ r. ⌜ r ≡ first (layout .generators) (λ g. orElse (blanks (now (numbers .entry)) (generatorAt (now (words .entry)) g + 4) 3)
+    ensures { λ r. ⌜ r ≡ first (layout .generators) (λ g.
+        orElse (blanks (now (numbers .entry)) (generatorAt (now (words .entry)) g + 4) 3)
         (blanks (now (numbers .entry)) (curveAt (now (words .entry)) g) (pointNumbers * points (now (words .entry)) g))) ⌝ }
 {
     let mut cursor = first_generator(words, layout);

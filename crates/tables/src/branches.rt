@@ -16,7 +16,8 @@ ghost use Rattle.network.specs.Layout.{Laid};
 
 // A branch that is number b.
 fn branch_fault(branch: Branch, b: usize) -> Fault
-    ensures { λ r. ⌜ r ≡ orElse (unless (not (branch .angled) || boundsRight (branch .«angle_min») (branch .«angle_max»)) (fault SPREAD b))
+    ensures { λ r. ⌜ r ≡
+        orElse (unless (not (branch .angled) || boundsRight (branch .«angle_min») (branch .«angle_max»)) (fault SPREAD b))
         (orElse (unless (not (branch .limited) || boundsRight zero64 (branch .«s_max»)) (fault RATING b))
         (unless (not (branch .limited) || isFinite (branch .«s_max» ⊗ branch .«s_max»)) (fault SQUARE b))) ⌝ }
 {

@@ -20,7 +20,8 @@ ghost use Rattle.network.specs.Layout.{Laid};
 // One curve, whose points start at `at`.
 fn curve_at(numbers: &[f64], at: usize, points: usize) -> Fault
     requires { ⌜ at + pointNumbers * points ≤ length (now numbers) ⌝ }
-    ensures { λ r. ⌜ r ≡ first (points - 1) (λ s. unless (lt (power (now (numbers .entry)) at s) (power (now (numbers .entry)) at (s + 1)))
+    ensures { λ r. ⌜ r ≡ first (points - 1) (λ s.
+        unless (lt (power (now (numbers .entry)) at s) (power (now (numbers .entry)) at (s + 1)))
         (fault CURVE (at + pointNumbers * (s + 1)))) ⌝ }
 {
     let mut s = 0usize;

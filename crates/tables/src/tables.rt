@@ -17,8 +17,10 @@ ghost use Rattle.network.specs.Layout.{Laid, Formed};
 fn numbers_fault(words: &[u32], numbers: &[f64], layout: Layout) -> Fault
     requires { ⌜ Laid (now words) (now numbers) layout ⌝ }
     ensures { λ r. ⌜ r ≡ orElse (faultBlank (now (words .entry)) (now (numbers .entry)))
-        (orElse (faultCurve (now (words .entry)) (now (numbers .entry))) (orElse (faultShift (now (words .entry)) (now (numbers .entry)))
-        (orElse (faultBounds (now (words .entry)) (now (numbers .entry))) (faultBranches (now (words .entry)) (now (numbers .entry)))))) ⌝ }
+        (orElse (faultCurve (now (words .entry)) (now (numbers .entry)))
+        (orElse (faultShift (now (words .entry)) (now (numbers .entry)))
+        (orElse (faultBounds (now (words .entry)) (now (numbers .entry)))
+        (faultBranches (now (words .entry)) (now (numbers .entry)))))) ⌝ }
 {
     let blank = blank_fault(words, numbers, layout);
     if blank.number != 0 {

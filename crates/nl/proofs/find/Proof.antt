@@ -1,6 +1,6 @@
 -- `nl::find` meets its contract.
 use mathlib.Core.Path.{_∙_}
-use Rattle.nl.specs.Finder.{namedBy}
+use Rattle.nl.specs.contracts.Named.{namedBy}
 use Rattle.nl.proofs.PartSteps.{shared-bad, shared-good}
 use borrow.Author.Needs.{needs}
 use Rattle.nl.proofs.find.Statement.{statement}

@@ -1,6 +1,6 @@
 -- `nl::find_after` meets its contract.
 use mathlib.Core.Path.{_∙_}
-use Rattle.nl.specs.Finder.{namedBy}
+use Rattle.nl.specs.contracts.Named.{namedBy}
 use Rattle.nl.proofs.PartSteps.{rows-bad, end-bad, end-good}
 use borrow.Author.Needs.{needs}
 use Rattle.nl.proofs.find_after.Statement.{statement}
@@ -39,11 +39,17 @@ returns c = c .refused .ensures ∙ rows-bad _ _ _ _ _ _ _ _ (c .before .before 
 
 returns-2 : tie.Need-returns-2
 unfolding namedBy
-returns-2 c = c .refused2 .ensures ∙ end-bad _ _ _ _ _ _ _ _ (c .before .before .before .before .before .before .before .before .read-parts .ensures) _ _ _ _ _ (c .before .before .before .before .before .before .s2 .given .1) _ (c .before .before .before .before .read-end .ensures) _ (c .before .before .e .given .1)
+returns-2 c =
+    let parts = c .before .before .before .before .before .before in
+    c .refused2 .ensures ∙ end-bad _ _ _ _ _ _ _ _ (parts .before .before .read-parts .ensures) _ _ _ _ _ (parts .s2 .given .1) _
+    (c .before .before .before .before .read-end .ensures) _ (c .before .before .e .given .1)
 
 returns-3 : tie.Need-returns-3
 unfolding namedBy
-returns-3 c = end-good _ _ _ _ _ _ _ _ (c .before .before .before .before .before .before .before .before .read-parts .ensures) _ _ _ _ _ (c .before .before .before .before .before .before .s2 .given .1) _ (c .before .before .before .before .read-end .ensures) _ _ _ (c .before .before .e2 .given .1) (c .row-of .ensures)
+returns-3 c =
+    let parts = c .before .before .before .before .before .before in
+    end-good _ _ _ _ _ _ _ _ (parts .before .before .read-parts .ensures) _ _ _ _ _ (parts .s2 .given .1) _
+    (c .before .before .before .before .read-end .ensures) _ _ _ (c .before .before .e2 .given .1) (c .row-of .ensures)
 
 pub find-after-spec : {M : Type 1} → statement M
 find-after-spec =

@@ -1,6 +1,6 @@
 -- `nl::named_by` meets its contract.
 use borrow.Author.Tests.{eq-eqb, ne-eqb}
-use Rattle.nl.specs.Finder.{namedBy}
+use Rattle.nl.specs.contracts.Named.{namedBy}
 use Rattle.nl.proofs.named_by.Statement.{statement}
 use Rattle.nl.proofs.named_by.Tie as tie
 

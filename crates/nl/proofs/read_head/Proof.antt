@@ -31,7 +31,10 @@ word-ok-requires : tie.Need-word-ok-requires
 word-ok-requires c κs = search needs
 
 returns-2 : tie.Need-returns-2
-returns-2 c = head-wrong _ _ _ _ _ _ _ _ _ (c .before .before .before .before .before .if1 .left) (c .before .before .before .kind-of .ensures) (c .before .before .load-of .ensures) (c .before .word-ok .ensures) (not-true _ (c .if2 .taken))
+returns-2 c =
+    let first = c .before .before .before .before .before .if1 .left in
+    head-wrong _ _ _ _ _ _ _ _ _ first (c .before .before .before .kind-of .ensures) (c .before .before .load-of .ensures)
+    (c .before .word-ok .ensures) (not-true _ (c .if2 .taken))
 
 operands-requires : tie.Need-operands-requires
 operands-requires c κs = search needs
@@ -41,11 +44,19 @@ add-t16 c = let h : _ < _ = constant-below _ _ _ _ _ _ _ (c .before .before .bef
 
 returns-3 : tie.Need-returns-3
 returns-3 c =
-    head-right _ _ _ _ _ _ _ _ _ _ _ (c .before .before .before .before .before .before .before .if1 .left) (c .before .before .before .before .before .kind-of .ensures) (c .before .before .before .before .load-of .ensures) (c .before .before .before .word-ok .ensures) (not-false _ (c .before .before .if2 .left)) (c .before .operands .ensures) (sym (ap (λ u. c .before .before .before .before .before .before .before .before .before .args .k + u) (uses-one _ (c .if3 .taken))))
+    let ok = c .before .before .before in
+    let first = ok .before .before .before .before in
+    head-right _ _ _ _ _ _ _ _ _ _ _ (first .if1 .left) (ok .before .before .kind-of .ensures) (ok .before .load-of .ensures)
+    (ok .word-ok .ensures) (not-false _ (c .before .before .if2 .left)) (c .before .operands .ensures)
+    (sym (ap (λ u. first .before .before .args .k + u) (uses-one _ (c .if3 .taken))))
 
 returns-4 : tie.Need-returns-4
 returns-4 c =
-    head-right _ _ _ _ _ _ _ _ _ _ _ (c .before .before .before .before .before .before .before .if1 .left) (c .before .before .before .before .before .kind-of .ensures) (c .before .before .before .before .load-of .ensures) (c .before .before .before .word-ok .ensures) (not-false _ (c .before .before .if2 .left)) (c .before .operands .ensures) (sym (ap (λ u. c .before .before .before .before .before .before .before .before .before .args .k + u) (uses-none _ (c .if3 .left)) ∙ add-zero _))
+    let ok = c .before .before .before in
+    let first = ok .before .before .before .before in
+    head-right _ _ _ _ _ _ _ _ _ _ _ (first .if1 .left) (ok .before .before .kind-of .ensures) (ok .before .load-of .ensures)
+    (ok .word-ok .ensures) (not-false _ (c .before .before .if2 .left)) (c .before .operands .ensures)
+    (sym (ap (λ u. first .before .before .args .k + u) (uses-none _ (c .if3 .left)) ∙ add-zero _))
 
 pub read-head-spec : {M : Type 1} → statement M
 read-head-spec =

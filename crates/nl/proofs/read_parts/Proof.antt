@@ -4,7 +4,7 @@ use Prim.Native.Nat.{_-_, _≤_, _<_}
 use native.Mathlib.Omega.{arith}
 use lib.ListN.{length}
 use Rattle.nl.specs.Reader.{readParts}
-use Rattle.nl.specs.Finder.{namedBy}
+use Rattle.nl.specs.contracts.Named.{namedBy}
 use Rattle.nl.proofs.Sound.{went-on}
 use Rattle.nl.proofs.PartSteps.{mark-inside, from-start, no-more, part-more, part-bad}
 use borrow.Author.Needs.{needs}
@@ -13,7 +13,9 @@ use Rattle.nl.proofs.read_parts.Tie as tie
 
 abbrev Inv-loop : tie.InvT-loop
 Inv-loop words from first kind r shared constants columns at₀ next₀ start₀ end₀ count₀ at next start end count =
-    (count ≤ at) × (readParts words constants columns (namedBy kind shared) kind r (length words) 0 from first 0 0 ≡ readParts words constants columns (namedBy kind shared) kind r (length words - count) count at next start end)
+    (count ≤ at)
+    × (readParts words constants columns (namedBy kind shared) kind r (length words) 0 from first 0 0
+    ≡ readParts words constants columns (namedBy kind shared) kind r (length words - count) count at next start end)
 
 abbrev μ-loop : tie.MeasureT-loop
 μ-loop words from first kind r shared constants columns at₀ next₀ start₀ end₀ count₀ at next start end count =
@@ -38,7 +40,10 @@ enum-known-e : tie.Need-enum-known-e Inv-loop μ-loop
 enum-known-e c = search needs
 
 add-for-part : tie.Need-add-for-part Inv-loop μ-loop
-add-for-part c = let h : _ < _ = mark-inside _ _ _ _ _ (c .before .before .before .before .before .before .is-mark .ensures) (c .before .before .before .before .before .if1 .taken) in omega arith
+add-for-part c =
+    let test = c .before .before .before .before .before in
+    let h : _ < _ = mark-inside _ _ _ _ _ (test .before .is-mark .ensures) (test .if1 .taken) in
+    omega arith
 
 for-part-requires : tie.Need-for-part-requires Inv-loop μ-loop
 for-part-requires c κs = search needs
@@ -51,26 +56,41 @@ enum-known-e-2 c = search needs
 
 returns : tie.Need-returns Inv-loop μ-loop
 returns c =
-    let h : _ < _ = mark-inside _ _ _ _ _ (c .before .before .before .before .before .before .is-mark .ensures) (c .before .before .before .before .before .if1 .taken) in
-    let lt : c .before .before .before .before .before .before .before .loop .count < length (c .before .before .before .before .before .before .before .before .before .args .words .now) = omega (arith, h, c .before .before .before .before .before .before .before .loop .inv .0) in
-    part-bad _ _ _ _ _ _ _ _ _ _ _ _ _ _ _ _ lt (c .before .before .before .before .before .before .is-mark .ensures) (c .before .before .before .before .before .if1 .taken) (c .before .before .before .before .named-by .ensures) (c .before .before .before .read-expr .ensures) (c .before .before .before .before .before .before .before .loop .inv .1) _ (c .before .e2 .given .1)
+    let test = c .before .before .before .before .before in
+    let loop = test .before .before .loop in
+    let mark = test .before .is-mark .ensures in
+    let h : _ < _ = mark-inside _ _ _ _ _ mark (test .if1 .taken) in
+    let lt : loop .count < length (test .before .before .before .before .args .words .now) = omega (arith, h, loop .inv .0) in
+    part-bad _ _ _ _ _ _ _ _ _ _ _ _ _ _ _ _ lt mark (test .if1 .taken)
+    (c .before .before .before .before .named-by .ensures) (c .before .before .before .read-expr .ensures) (loop .inv .1) _ (c .before .e2 .given .1)
 
 add-count : tie.Need-add-count Inv-loop μ-loop
 add-count c =
-    let h : _ < _ = mark-inside _ _ _ _ _ (c .before .before .before .before .before .before .before .before .is-mark .ensures) (c .before .before .before .before .before .before .before .if1 .taken) in omega (arith, c .before .before .before .before .before .before .before .before .before .loop .inv .0)
+    let test = c .before .before .before .before .before .before .before in
+    let h : _ < _ = mark-inside _ _ _ _ _ (test .before .is-mark .ensures) (test .if1 .taken) in
+    omega (arith, test .before .before .loop .inv .0)
 
 loop-less : tie.Need-loop-less Inv-loop μ-loop
 loop-less c =
-    let h : _ < _ = mark-inside _ _ _ _ _ (c .before .before .before .before .before .before .before .before .is-mark .ensures) (c .before .before .before .before .before .before .before .if1 .taken) in
+    let test = c .before .before .before .before .before .before .before in
+    let h : _ < _ = mark-inside _ _ _ _ _ (test .before .is-mark .ensures) (test .if1 .taken) in
     let g = went-on _ _ _ _ _ _ _ _ _ _ (c .before .before .before .before .before .read-expr .ensures) (c .before .before .before .e .given .1) in
     omega arith
 
 loop-again : tie.Need-loop-again Inv-loop μ-loop
 loop-again c =
-    let h : _ < _ = mark-inside _ _ _ _ _ (c .before .before .before .before .before .before .before .before .is-mark .ensures) (c .before .before .before .before .before .before .before .if1 .taken) in
-    let g = went-on _ _ _ _ _ _ _ _ _ _ (c .before .before .before .before .before .read-expr .ensures) (c .before .before .before .e .given .1) in
-    let lt : c .before .before .before .before .before .before .before .before .before .loop .count < length (c .before .before .before .before .before .before .before .before .before .before .before .args .words .now) = omega (arith, h, c .before .before .before .before .before .before .before .before .before .loop .inv .0) in
-    (omega (arith, g .0, c .before .before .before .before .before .before .before .before .before .loop .inv .0), part-more _ _ _ _ _ _ _ _ _ _ _ _ _ _ _ _ lt (c .before .before .before .before .before .before .before .before .is-mark .ensures) (c .before .before .before .before .before .before .before .if1 .taken) (c .before .before .before .before .before .before .named-by .ensures) (c .before .before .before .before .before .read-expr .ensures) (c .before .before .before .before .before .before .before .before .before .loop .inv .1) _ _ _ _ (c .before .before .before .e .given .1) (c .before .for-part .ensures) (c .for-part2 .ensures))
+    let test = c .before .before .before .before .before .before .before in
+    let loop = test .before .before .loop in
+    let mark = test .before .is-mark .ensures in
+    let read = c .before .before .before .before .before .read-expr .ensures in
+    let e = c .before .before .before .e .given .1 in
+    let h : _ < _ = mark-inside _ _ _ _ _ mark (test .if1 .taken) in
+    let g = went-on _ _ _ _ _ _ _ _ _ _ read e in
+    let lt : loop .count < length (test .before .before .before .before .args .words .now) = omega (arith, h, loop .inv .0) in (
+      omega (arith, g .0, loop .inv .0),
+      part-more _ _ _ _ _ _ _ _ _ _ _ _ _ _ _ _ lt mark (test .if1 .taken) (c .before .before .before .before .before .before .named-by .ensures)
+          read (loop .inv .1) _ _ _ _ e (c .before .for-part .ensures) (c .for-part2 .ensures),
+    )
 
 returns-2 : tie.Need-returns-2 Inv-loop μ-loop
 returns-2 c = sym (c .before .before .loop .inv .1 ∙ no-more _ _ _ _ _ _ _ _ _ _ _ _ _ (c .before .is-mark .ensures) (c .if1 .left))

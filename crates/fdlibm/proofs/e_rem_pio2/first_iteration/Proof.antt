@@ -31,7 +31,9 @@ returns c = rw (c .two-parts .ensures, ← c .before .before .before .from-whole
 
 returns-2 : tie.Need-returns-2
 unfolding firstIteration
-returns-2 c = rw (c .second-iteration .ensures, ← c .before .before .before .before .before .from-whole .ensures, ← c .before .before .before .before .no-cancellation .ensures, c .before .before .before .if1 .left, ← c .before .before .exponent-field .ensures, lt-ltb _ _ (c .before .if2 .taken))
+returns-2 c =
+    let cancels = c .before .before .before in
+    rw (c .second-iteration .ensures, ← cancels .before .before .from-whole .ensures, ← cancels .before .no-cancellation .ensures, cancels .if1 .left, ← c .before .before .exponent-field .ensures, lt-ltb _ _ (c .before .if2 .taken))
 
 returns-3 : tie.Need-returns-3
 unfolding firstIteration

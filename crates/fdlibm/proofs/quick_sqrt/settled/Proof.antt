@@ -41,29 +41,29 @@ above-requires-2 c κs = search needs
 
 add-result : tie.Need-add-result
 add-result c =
-    let d = c .before .before .before .before .before .args .d in
-    let p = c .before .before .before .before .before .args .p in
-    let t = c .before .before .before .before .excess .result in
-    let z : t ≡ 0 → ⊥ = λ e. omega arith in
-    let l = settle-law (d * 2 ^ 52) p t (c .before .above .result) (c .above2 .result) (c .before .before .before .before .excess .ensures .0 z) (c .before .before .before .before .before .pre .1) (c .before .before .before .if1 .left) (c .before .before .if2 .left) (c .before .above .ensures) (c .above2 .ensures) in
+    let start = c .before .before .before .before .before in
+    let excess = c .before .before .before .before .excess in
+    let z : excess .result ≡ 0 → ⊥ = λ e. omega arith in
+    let l = settle-law (start .args .d * 2 ^ 52) (start .args .p) (excess .result) (c .before .above .result) (c .above2 .result) (excess .ensures .0 z)
+    (start .pre .1) (c .before .before .before .if1 .left) (c .before .before .if2 .left) (c .before .above .ensures) (c .above2 .ensures) in
     omega (arith, l .0)
 
 sub-result : tie.Need-sub-result
 sub-result c =
-    let d = c .before .before .before .before .before .args .d in
-    let p = c .before .before .before .before .before .args .p in
-    let t = c .before .before .before .before .excess .result in
-    let z : t ≡ 0 → ⊥ = λ e. omega arith in
-    let l = settle-law (d * 2 ^ 52) p t (c .before .above .result) (c .above2 .result) (c .before .before .before .before .excess .ensures .0 z) (c .before .before .before .before .before .pre .1) (c .before .before .before .if1 .left) (c .before .before .if2 .left) (c .before .above .ensures) (c .above2 .ensures) in
+    let start = c .before .before .before .before .before in
+    let excess = c .before .before .before .before .excess in
+    let z : excess .result ≡ 0 → ⊥ = λ e. omega arith in
+    let l = settle-law (start .args .d * 2 ^ 52) (start .args .p) (excess .result) (c .before .above .result) (c .above2 .result) (excess .ensures .0 z)
+    (start .pre .1) (c .before .before .before .if1 .left) (c .before .before .if2 .left) (c .before .above .ensures) (c .above2 .ensures) in
     l .1
 
 returns-3 : tie.Need-returns-3
 returns-3 c =
-    let d = c .before .before .before .before .before .args .d in
-    let p = c .before .before .before .before .before .args .p in
-    let t = c .before .before .before .before .excess .result in
-    let z : t ≡ 0 → ⊥ = λ e. omega arith in
-    let l = settle-law (d * 2 ^ 52) p t (c .before .above .result) (c .above2 .result) (c .before .before .before .before .excess .ensures .0 z) (c .before .before .before .before .before .pre .1) (c .before .before .before .if1 .left) (c .before .before .if2 .left) (c .before .above .ensures) (c .above2 .ensures) in
+    let start = c .before .before .before .before .before in
+    let excess = c .before .before .before .before .excess in
+    let z : excess .result ≡ 0 → ⊥ = λ e. omega arith in
+    let l = settle-law (start .args .d * 2 ^ 52) (start .args .p) (excess .result) (c .before .above .result) (c .above2 .result) (excess .ensures .0 z)
+    (start .pre .1) (c .before .before .before .if1 .left) (c .before .before .if2 .left) (c .before .above .ensures) (c .above2 .ensures) in
     ((λ n. l .2), l .3)
 
 pub settled-spec : {M : Type 1} → statement M

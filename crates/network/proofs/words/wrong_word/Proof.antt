@@ -35,7 +35,8 @@ word-right-requires c κs = (c .loop-test .taken, c .before .loop .inv .2)
 returns-2 : tie.Need-returns-2 Inv-loop μ-loop
 unfolding faultWords
 returns-2 c =
-    rw (ne-eqb (length (c .before .before .before .before .before .before .args .words .now)) 0 (λ z. omega arith)) (test-here _ 1 _ _ _ (omega arith) (c .before .before .loop-test .taken) (sym (c .before .word-right .ensures) ∙ not-true _ (c .if2 .taken)) (c .before .before .before .loop .inv .3))
+    rw (ne-eqb (length (c .before .before .before .before .before .before .args .words .now)) 0 (λ z. omega arith))
+    (test-here _ 1 _ _ _ (omega arith) (c .before .before .loop-test .taken) (sym (c .before .word-right .ensures) ∙ not-true _ (c .if2 .taken)) (c .before .before .before .loop .inv .3))
 
 mul-counted : tie.Need-mul-counted Inv-loop μ-loop
 mul-counted c = search needs
