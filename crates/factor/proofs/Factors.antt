@@ -27,7 +27,7 @@ use Rattle.acopf.specs.Build.{square, terms}
 use Rattle.acopf.specs.Columns.{vmLower, vmUpper, pgLower, pgUpper, qgLower, qgUpper, vaStart, vmStart, pgStart, qgStart, epigraphStart, columnStart}
 use Rattle.acopf.specs.Curve.{slope, intercept}
 use Rattle.acopf.specs.Factor.{firstNonFinite, constants64, faultFactor}
-use Rattle.acopf.specs.Flow.{coefficients, branchCoefficients}
+use Rattle.acopf.specs.Flow.{coefficientsOf, coefficients}
 use Rattle.acopf.specs.Model.{objective, objectiveConstant, model}
 use Rattle.factor.specs.NonFinite.{nonFinite, coefficientsFault, curveFault, rowSegments, segmentsBefore, branchesFactor, curvesFactor, epigraphsFactor}
 use Rattle.acopf.specs.Parts.{branchParts, sharedParts}
@@ -65,12 +65,12 @@ first-from l = first-same (length l) _ _ (λ i h. ap (nonFinite (getD l i nan)) 
 module _ (ws : List ℕ) (xs : List Float) where
   -- ---- coefficients
 
-  part-constants : (b : ℕ) → gather constants (branchParts ws xs b) ≡ map (toBits binary64) (branchCoefficients ws xs b)
-  unfolding branchParts coefficients gather constants
+  part-constants : (b : ℕ) → gather constants (branchParts ws xs b) ≡ map (toBits binary64) (coefficients ws xs b)
+  unfolding branchParts coefficientsOf gather constants
   part-constants b = refl
 
-  coefficients-kept : (b : ℕ) → Every (λ j x. finiteBits (toBits binary64 x) ≡ isFinite x) 0 (branchCoefficients ws xs b)
-  unfolding coefficients
+  coefficients-kept : (b : ℕ) → Every (λ j x. finiteBits (toBits binary64 x) ≡ isFinite x) 0 (coefficients ws xs b)
+  unfolding coefficientsOf
   coefficients-kept b =
       every-cons (over _ _) (every-cons (over _ _) (every-cons (over _ _) (every-cons (over _ _) (every-cons (over _ _) (every-cons (over _ _)
       (every-cons (back-finite _ (add-fits binary64 _ _)) (every-cons (over _ _) (every-cons (over _ _)
@@ -79,19 +79,19 @@ module _ (ws : List ℕ) (xs : List Float) where
       over : (x y : Float) → finiteBits (toBits binary64 (div binary64 x y)) ≡ isFinite (div binary64 x y)
       over x y = back-finite (div binary64 x y) (div-fits binary64 x y)
 
-  coefficients-are : (b k : ℕ) → firstBits k (gather constants (branchParts ws xs b)) ≡ coefficientsFault (branchCoefficients ws xs b) k
-  unfolding coefficientsFault coefficients
+  coefficients-are : (b k : ℕ) → firstBits k (gather constants (branchParts ws xs b)) ≡ coefficientsFault (coefficients ws xs b) k
+  unfolding coefficientsFault coefficientsOf
   coefficients-are b k =
-      ap (firstBits k) (part-constants b) ∙ failing-map 11 finiteBits (toBits binary64) k (branchCoefficients ws xs b)
-      ∙ failing-same 11 (λ x. finiteBits (toBits binary64 x)) isFinite 0 k (branchCoefficients ws xs b) (coefficients-kept b .all)
-      ∙ sym (failing-at 11 isFinite (omega arith) nan k (branchCoefficients ws xs b))
+      ap (firstBits k) (part-constants b) ∙ failing-map 11 finiteBits (toBits binary64) k (coefficients ws xs b)
+      ∙ failing-same 11 (λ x. finiteBits (toBits binary64 x)) isFinite 0 k (coefficients ws xs b) (coefficients-kept b .all)
+      ∙ sym (failing-at 11 isFinite (omega arith) nan k (coefficients ws xs b))
 
   shared-are : firstBits 0 (constantsOf (terms (sharedParts ws xs))) ≡ branchesFactor ws xs
-  unfolding sharedParts branchesFactor coefficients
+  unfolding sharedParts branchesFactor coefficientsOf
   shared-are =
       ap (firstBits 0) (constants-gather (sharedParts ws xs) ∙ gather-append constants squares parts ∙ ap₂ (λ l m. l ++ m) no-squares (gather-each constants (branches ws) (branchParts ws xs)))
       ∙ failing-turns 11 finiteBits 12 0 (branches ws) (λ b. gather constants (branchParts ws xs b)) (λ b. ap length (part-constants b))
-      ∙ first-same (branches ws) _ _ (λ b l. coefficients-are b (0 + 12 * b) ∙ ap (coefficientsFault (branchCoefficients ws xs b)) (zero-add (12 * b)))
+      ∙ first-same (branches ws) _ _ (λ b l. coefficients-are b (0 + 12 * b) ∙ ap (coefficientsFault (coefficients ws xs b)) (zero-add (12 * b)))
     where
       squares : List Expr
       squares = table (buses ws) (λ i. square (column (vmColumn ws i)))

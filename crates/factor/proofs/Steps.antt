@@ -22,12 +22,11 @@ use Rattle.network.proofs.Good.{generator-next}
 use Rattle.tables.proofs.Laid.{good}
 use Rattle.network.specs.declared.layout.Layout.{Layout}
 use Rattle.network.specs.declared.records.Generator.{Generator}
-use Rattle.network.specs.Layout.{Laid, GeneratorRead}
+use Rattle.network.specs.declared.records.Branch.{Branch}
+use Rattle.network.specs.Layout.{Laid, GeneratorRead, BranchRead}
 use Rattle.acopf.specs.Columns.{pgLower, pgUpper, pgStart, epigraphStart}
 use Rattle.acopf.specs.Curve.{evaluate}
-use Rattle.acopf.specs.Flow.{branchCoefficients}
-use Rattle.acopf.specs.contracts.Leaf.{coefficientsAt}
-use Rattle.acopf.proofs.Leaves.{coefficients-at}
+use Rattle.acopf.specs.Flow.{coefficientsOf, coefficients}
 use Rattle.factor.specs.NonFinite.{coefficientsFault, curveFault, rowSegments, segmentsBefore}
 use Rattle.acopf.specs.Rows.{rated}
 pub use Rattle.acopf.proofs.Tallied.{tally-none, tally-next, segments-none, segments-next, epigraphs-none, epigraphs-next, costsBefore, costs-none, costs-next}
@@ -164,11 +163,11 @@ module _ {ws : List ℕ} {xs : List Float} {l : Layout} where
       → r ≡ a + epigraphsBefore ws (g + 1)
   column-read a {g} G e c = place-turn ws g a (ap (λ x. x .curved) (G .is)) e c
 
+  pub coefficients-read : (place : ℕ) {b : ℕ} {r : Branch} {cs : List Float} → BranchRead ws xs l b r → cs ≡ coefficientsOf r
+      → coefficientsFault cs place ≡ coefficientsFault (coefficients ws xs b) place
+  coefficients-read place B e = rw (e, B .is)
+
 -- a segment that has rows lies in its curve
 pub segment-fits : (on : Bool) {count s p : ℕ} → count ≡ cond on (p - 1) 0 → s < count → s + 2 ≤ p
 segment-fits true e l = omega arith
 segment-fits false e l = absurd (omega arith)
-
-pub coefficients-read : (ws : List ℕ) (xs : List Float) (b place : ℕ) {at : ℕ} {cs : List Float} → cs ≡ coefficientsAt xs at → at ≡ branchAt ws b
-    → coefficientsFault cs place ≡ coefficientsFault (branchCoefficients ws xs b) place
-coefficients-read ws xs b place e a = ap (λ c. coefficientsFault c place) (e ∙ rw a (sym (coefficients-at ws xs b)))

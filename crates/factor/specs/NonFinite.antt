@@ -15,7 +15,7 @@ use Rattle.acopf.specs.Columns.{epigraphStart}
 use Rattle.acopf.specs.Factor.{constants64}
 use Rattle.acopf.specs.Model.{objectiveConstant}
 use Rattle.acopf.specs.Curve.{slope, intercept}
-use Rattle.acopf.specs.Flow.{branchCoefficients}
+use Rattle.acopf.specs.Flow.{coefficients}
 pub use Rattle.acopf.specs.Tallies.{rowSegments}
 unfoldable pub use Rattle.acopf.specs.Tallies.{segmentsBefore}
 
@@ -32,7 +32,7 @@ curveFault xs at count place = first count (λ s. orElse (nonFinite (slope xs at
 
 module _ (ws : List ℕ) (xs : List Float) where
   unfoldable pub branchesFactor : Fault
-  branchesFactor = first (branches ws) (λ b. coefficientsFault (branchCoefficients ws xs b) (12 * b))
+  branchesFactor = first (branches ws) (λ b. coefficientsFault (coefficients ws xs b) (12 * b))
 
   unfoldable pub curvesFactor : ℕ → Fault
   curvesFactor place = first (generators ws) (λ g. curveFault xs (curveAt ws g) (rowSegments ws g) (place + 2 * segmentsBefore ws g))

@@ -12,7 +12,7 @@ use acopf::slope_of;
 use base::Fault;
 use base::refusal;
 use network::Layout;
-use network::branch_start;
+use network::branch_of;
 use network::first_generator;
 use network::generator_of;
 use network::next_generator;
@@ -56,8 +56,8 @@ fn branches_factor(words: &[u32], numbers: &[f64], layout: Layout) -> Fault
 {
     let mut b = 0usize;
     while b < layout.branches {
-        let at = branch_start(words, layout, b);
-        let f = coefficients_fault(coefficients(numbers, at), 12 * b);
+        let branch = branch_of(words, numbers, layout, b);
+        let f = coefficients_fault(coefficients(branch), 12 * b);
         if f.number != 0 {
             return f;
         }
