@@ -11,7 +11,7 @@ use lib.Dec.{T}
 use lib.Ieee.{Float, nan, binary64, toBits, ofBits, fits, div}
 use lib.Ieee.Fits.{neg-fits, add-fits, sub-fits, div-fits}
 use Rattle.base.specs.declared.Fault.{Fault}
-use Rattle.base.specs.Fault.{fault, clear, unless, orElse, first}
+use Rattle.base.specs.Fault.{fault, clear, unless, orElse}
 use Rattle.base.specs.Loop.{loop, table, each, keep}
 use Rattle.base.proofs.Firsts.{Clear}
 use Rattle.base.proofs.Loops.{Every, every-nil, every-cons, every-append, every-table, length-table, length-each, length-kept}
@@ -29,12 +29,14 @@ use Rattle.acopf.specs.Curve.{slope, intercept}
 use Rattle.acopf.specs.Factor.{firstNonFinite, constants64, faultFactor}
 use Rattle.acopf.specs.Flow.{coefficientsOf, coefficients}
 use Rattle.acopf.specs.Model.{objective, objectiveConstant, model}
-use Rattle.factor.specs.NonFinite.{nonFinite, coefficientsFault, curveFault, rowSegments, segmentsBefore, branchesFactor, curvesFactor, epigraphsFactor}
+use Rattle.acopf.specs.Tallies.{rowSegments, segmentsBefore}
+use Rattle.factor.specs.contracts.NonFinite.{nonFinite, coefficientsFault, curveFault, branchesFactor, curvesFactor, epigraphsFactor}
 use Rattle.acopf.specs.Parts.{branchParts, sharedParts}
 use Rattle.acopf.specs.Rows.{Row, segmentRow, segmentRows, rows}
 use Rattle.factor.proofs.Fine.{finiteBits, FiniteBits, FineRow, rows-fine, objective-fine}
-use Rattle.factor.proofs.Numbers.{back-finite, zero-finite, huge-finite, low-finite, bound-finite, finite-or-finite, start-finite}
-use Rattle.factor.proofs.Sizes.{firstRows, ratings, shared-constants, first-constants}
+use Rattle.acopf.proofs.Finite.{zero-finite, huge-finite, low-finite, bound-finite}
+use Rattle.factor.proofs.Numbers.{back-finite, finite-or-finite, start-finite}
+use Rattle.acopf.proofs.Sizes.{firstRows, ratings, shared-constants, first-constants}
 
 -- ---- the constants of expressions, one after the other
 

@@ -1,12 +1,12 @@
 use native.Mathlib.Omega.{arith}
-use mathlib.Core.Path.{_≡_, sym, ap, _∙_}
-use Prim.Native.Nat.{_+_, _-_, _*_, _≤_}
+use mathlib.Core.Path.{ap, _∙_}
+use Prim.Native.Nat.{_-_, _*_, _≤_}
 use Rattle.base.specs.Fault.{first}
-use Rattle.base.proofs.Firsts.{Clear, unless-proper}
+use Rattle.base.proofs.Firsts.{Clear}
 use Rattle.base.proofs.Turns.{first-none, first-step, first-here, first-done}
 use Rattle.acopf.specs.Flow.{coefficients}
-use Rattle.factor.specs.NonFinite.{coefficientsFault, branchesFactor}
-use Rattle.factor.proofs.Steps.{coefficients-proper, coefficients-read}
+use Rattle.factor.specs.contracts.NonFinite.{coefficientsFault, branchesFactor}
+use Rattle.factor.proofs.Turns.{coefficients-proper, coefficients-read}
 use borrow.Author.Needs.{needs}
 use Rattle.factor.proofs.factor.branches_factor.Statement.{statement}
 use Rattle.factor.proofs.factor.branches_factor.Tie as tie
