@@ -9,9 +9,11 @@ use Rattle.float.specs.Number.{_⊕_, _⊖_, _⊗_, _⊘_, isFinite}
 use Rattle.float.proofs.Negated.{SignChanged, neg-neg, mul-neg, neg-mul, add-neg, sub-neg, neg-add, square-over}
 use Rattle.fdlibm.specs.Trig.{sine, cosine}
 use Rattle.bounds.specs.Bounds.{finiteOr}
-use Rattle.network.specs.Network.{vaGiven, lineG, lineB, gFr, bFr, gTo, bTo, tap, shift}
+use Rattle.network.specs.declared.records.Branch.{Branch}
+use Rattle.network.specs.Layout.{branchRecord}
+use Rattle.network.specs.Network.{vaGiven, lineG, lineB, tap, shift}
 use Rattle.acopf.specs.Columns.{vaStart}
-use Rattle.acopf.specs.Flow.{Complex, conjugate, transferFrom, transferTo, coefficients, branchCoefficients}
+use Rattle.acopf.specs.Flow.{Complex, conjugate, transferFrom, transferTo, coefficientsOf, coefficients}
 
 -- ---- the two ends see the shift turned opposite ways
 
@@ -59,31 +61,34 @@ turned-q g r b t s =
     let q = b ⊗ (t ⊗ s) in
     rw (turned-product b t s, neg-mul g r) (rw (neg-neg p, neg-neg q) at (neg-add (neg p) (neg q)))
 
-module _ (g b gfr bfr gto bto tap shift : Float) where
-  pub from-coefficients : fromEnd (coefficients g b gfr bfr gto bto tap shift) ≡ fromEndAt g b tap (cosine shift) (sine shift)
-  unfolding coefficients
+module _ (r : Branch) where
+  pub from-coefficients : fromEnd (coefficientsOf r) ≡ fromEndAt (r .g) (r .b) (r .tap) (cosine (r .shift)) (sine (r .shift))
+  unfolding coefficientsOf
   from-coefficients = refl
 
   -- the to end's are the from end's at the negated sine, with the sign of wi changed
-  pub opposite-coefficients : WiChanged (toEnd (coefficients g b gfr bfr gto bto tap shift)) (fromEndAt g b tap (cosine shift) (neg (sine shift)))
-  unfolding coefficients
+  pub opposite-coefficients : WiChanged (toEnd (coefficientsOf r)) (fromEndAt (r .g) (r .b) (r .tap) (cosine (r .shift)) (neg (sine (r .shift))))
+  unfolding coefficientsOf
   opposite-coefficients =
-      let tr = tap ⊗ cosine shift in
-      let s = sine shift in
+      let tr = r .tap ⊗ cosine (r .shift) in
+      let s = sine (r .shift) in
       record {
-        p-wr = ap (λ x. x ⊘ (tap ⊗ tap)) (turned-sum (neg g ⊗ tr) b tap s);
-        p-wi = square-over _ _ tap (turned-p b tr g tap s);
-        q-wr = ap (λ x. x ⊘ (tap ⊗ tap)) (turned-sum (b ⊗ tr) g tap s);
-        q-wi = square-over _ _ tap (turned-q g tr b tap s);
+        p-wr = ap (λ x. x ⊘ (r .tap ⊗ r .tap)) (turned-sum (neg (r .g) ⊗ tr) (r .b) (r .tap) s);
+        p-wi = square-over _ _ (r .tap) (turned-p (r .b) tr (r .g) (r .tap) s);
+        q-wr = ap (λ x. x ⊘ (r .tap ⊗ r .tap)) (turned-sum (r .b ⊗ tr) (r .g) (r .tap) s);
+        q-wi = square-over _ _ (r .tap) (turned-q (r .g) tr (r .b) (r .tap) s);
       }
 
 -- the same of a network's branch a
 module _ (ws : List ℕ) (xs : List Float) (a : ℕ) where
-  pub branch-from : fromEnd (branchCoefficients ws xs a) ≡ fromEndAt (lineG ws xs a) (lineB ws xs a) (tap ws xs a) (cosine (shift ws xs a)) (sine (shift ws xs a))
-  branch-from = from-coefficients (lineG ws xs a) (lineB ws xs a) (gFr ws xs a) (bFr ws xs a) (gTo ws xs a) (bTo ws xs a) (tap ws xs a) (shift ws xs a)
+  abbrev fromEndOf : Float → List Float
+  fromEndOf = fromEndAt (lineG ws xs a) (lineB ws xs a) (tap ws xs a) (cosine (shift ws xs a))
 
-  pub branch-opposite : WiChanged (toEnd (branchCoefficients ws xs a)) (fromEndAt (lineG ws xs a) (lineB ws xs a) (tap ws xs a) (cosine (shift ws xs a)) (neg (sine (shift ws xs a))))
-  branch-opposite = opposite-coefficients (lineG ws xs a) (lineB ws xs a) (gFr ws xs a) (bFr ws xs a) (gTo ws xs a) (bTo ws xs a) (tap ws xs a) (shift ws xs a)
+  pub branch-from : fromEnd (coefficients ws xs a) ≡ fromEndOf (sine (shift ws xs a))
+  branch-from = from-coefficients (branchRecord ws xs a)
+
+  pub branch-opposite : WiChanged (toEnd (coefficients ws xs a)) (fromEndOf (neg (sine (shift ws xs a))))
+  branch-opposite = opposite-coefficients (branchRecord ws xs a)
 
 -- ---- va is not clamped
 

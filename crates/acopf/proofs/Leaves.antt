@@ -1,4 +1,4 @@
--- Laws for the leaves' proofs and callers: a branch's definitions over its place, and the steps of a curve's loops.
+-- The steps of a curve's loops.
 use mathlib.Core.Path.{_≡_, refl, ap, sym, _∙_}
 use mathlib.Core.List.{List, [], _∷_, _++_}
 use mathlib.Core.Bool.{true}
@@ -9,20 +9,8 @@ use lib.Ieee.{Float, nan, inf}
 use Rattle.base.specs.Loop.{loop, table}
 use Rattle.base.proofs.Loops.{getD-table}
 use Rattle.float.specs.Number.{_⊕_, _⊗_, maximum}
-use Rattle.network.specs.Network.{branchAt}
 use Rattle.acopf.specs.Curve.{slope, intercept, slopes, intercepts, evaluate}
-use Rattle.acopf.specs.Flow.{branchCoefficients}
-use Rattle.acopf.specs.contracts.Leaf.{rowCoefficients, coefficientsAt}
 use Rattle.acopf.specs.contracts.Prepared.{Prepared}
-
--- ---- a branch
-
-module _ (ws : List ℕ) (xs : List Float) (b : ℕ) where
-  pub coefficients-at : branchCoefficients ws xs b ≡ coefficientsAt xs (branchAt ws b)
-  unfolding coefficientsAt rowCoefficients
-  coefficients-at = refl
-
--- ---- a curve
 
 module _ {xs : List Float} {at : ℕ} where
   pub prepared-none : {l m : List Float} → Prepared xs at 0 l m

@@ -1,4 +1,5 @@
 pub mod Counts
+pub mod Sizes
 pub mod Laws
 pub mod Leaves
 pub mod Order

@@ -1,22 +1,21 @@
 -- What a network that is not refused has: finite bounds of all columns, and finite constants, so finite slopes and intercepts of its curves.
-use mathlib.Core.Path.{_≡_, refl, ap, sym, _∙_}
+use mathlib.Core.Path.{_≡_, ap, sym, _∙_}
 use mathlib.Core.List.{List, [], _∷_, _++_, map}
-use mathlib.Core.Bool.{Bool, true, false, cond}
+use mathlib.Core.Bool.{true}
 use Prim.Native.Nat.{ℕ, suc, _+_, _<_}
 use native.Mathlib.Omega.{arith}
 use lib.Dec.{T}
-use lib.Ieee.{Float, nan, binary64, neg, ofBits, toBits, fits}
+use lib.Ieee.{Float, nan, binary64, ofBits, toBits, fits}
 use lib.Ieee.Bits.{ofBits-toBits}
 use lib.Ieee.Fits.{div-fits, sub-fits}
 use Rattle.base.specs.Fault.{clear}
 use Rattle.base.specs.Loop.{table, each, keep}
 use Rattle.base.proofs.Firsts.{Clear, or-left, or-right}
 use Rattle.base.proofs.Loops.{AllFrom, Every, every-append, every-table, all-left, all-right, all-at, all-of-each, getD-table, length-table}
-use Rattle.float.specs.Number.{isFinite, AllFinite, zero64}
+use Rattle.float.specs.Number.{isFinite, AllFinite}
 use Rattle.float.proofs.Finite.{finite-append}
 use Rattle.nl.specs.Expr.{constants, constantsOf}
 use Rattle.nl.specs.File.{modelConstants}
-use Rattle.bounds.specs.Bounds.{huge64}
 use Rattle.tables.specs.Fault.{faultTables}
 use Rattle.network.specs.Network.{buses, generators, branches, references, vmBounded, capable, angled, curved, segments, curveAt, epigraphsBefore}
 use Rattle.tables.proofs.Right.{lower-right, upper-right, vm-right, pg-right, qg-right}
@@ -27,25 +26,8 @@ use Rattle.acopf.specs.Factor.{constants64, faultFactor, networkFault}
 use Rattle.acopf.specs.Model.{objective, objectiveConstant, model}
 use Rattle.acopf.specs.Parts.{sharedParts}
 use Rattle.acopf.specs.Rows.{Row, pBalance, qBalance, referenceRow, angleRow, thermalRows, segmentRow, segmentRows, rows}
-use Rattle.acopf.proofs.Finite.{non-finite-clear}
+use Rattle.acopf.proofs.Finite.{non-finite-clear, zero-finite, huge-finite, low-finite, bound-finite}
 use Rattle.acopf.proofs.Order.{network-is}
-
-huge-finite : isFinite huge64 ≡ true
-unfolding ofBits isFinite
-huge-finite = refl
-
-low-finite : isFinite (neg huge64) ≡ true
-unfolding ofBits neg isFinite
-low-finite = refl
-
-zero-finite : isFinite zero64 ≡ true
-unfolding ofBits isFinite
-zero-finite = refl
-
--- the table's bound where its flag is set, else the given one
-bound-finite : (flag : Bool) (x y : Float) → (flag ≡ true → isFinite x ≡ true) → isFinite y ≡ true → isFinite (cond flag x y) ≡ true
-bound-finite true x y h k = h refl
-bound-finite false x y h k = k
 
 -- ---- the columns' bounds
 

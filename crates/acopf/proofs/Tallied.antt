@@ -7,6 +7,7 @@ use native.Mathlib.Numerals.{add-one}
 use native.Mathlib.Omega.{arith}
 use lib.Ieee.{Float}
 use Rattle.base.specs.Loop.{loop, tally}
+use Rattle.base.proofs.Loops.{tally-le}
 use Rattle.float.specs.Number.{_⊕_, zero64}
 use Rattle.network.specs.Network.{costs, curved, cost0, angled, rated, epigraphsBefore}
 use Rattle.network.specs.declared.layout.Layout.{Layout}
@@ -41,6 +42,10 @@ module _ (ws : List ℕ) where
   pub epigraphs-next : (g : ℕ) → epigraphsBefore ws (g + 1) ≡ cond (curved ws g) (suc (epigraphsBefore ws g)) (epigraphsBefore ws g)
   unfolding epigraphsBefore
   epigraphs-next g = tally-next (curved ws) g
+
+  pub epigraphs-le : (g : ℕ) → epigraphsBefore ws g ≤ g
+  unfolding epigraphsBefore
+  epigraphs-le g = tally-le g (curved ws)
 
   -- the objective constant of the first g generators
   abbrev pub costsBefore : List Float → ℕ → Float

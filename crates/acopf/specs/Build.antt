@@ -1,5 +1,4 @@
 -- The Rust's helpers that build expressions (000: constant, add, subtract, multiply, scaled, square, unary, sum).
-use Prim.Native.Nat.{ℕ}
 use mathlib.Core.List.{List, [], _∷_}
 use lib.Ieee.{Float, binary64, toBits}
 use Rattle.float.specs.Number.{zero64}

@@ -6,7 +6,8 @@ use lib.Ieee.{Float, neg}
 use Rattle.base.specs.Loop.{table, each, keep}
 use Rattle.float.specs.Number.{zero64}
 use Rattle.bounds.specs.Bounds.{huge64, finiteOr, clampStart}
-use Rattle.network.specs.Network.{buses, generators, vmBounded, capable, curved, epigraphsBefore, vmMin, vmMax, vaGiven, vmGiven, pMin, pMax, qMin, qMax, pgGiven, qgGiven}
+use Rattle.network.specs.Network.{buses, generators, vmBounded, capable, curved, epigraphsBefore}
+use Rattle.network.specs.Network.{vmMin, vmMax, vaGiven, vmGiven, pMin, pMax, qMin, qMax, pgGiven, qgGiven}
 use Rattle.acopf.specs.Curve.{curveValue}
 
 module _ (ws : List ℕ) (xs : List Float) where

@@ -8,22 +8,24 @@ use Rattle.float.specs.Number.{_⊕_, _⊖_, _⊗_, _⊘_}
 use Rattle.fdlibm.specs.Trig.{sine, cosine}
 use Rattle.network.specs.declared.records.Branch.{Branch}
 use Rattle.network.specs.Layout.{branchRecord}
-use Rattle.network.specs.Network.{from, to, vaColumn, vmColumn, lineG, lineB, gFr, bFr, gTo, bTo, tap, shift}
+use Rattle.network.specs.Network.{from, to, vaColumn, vmColumn}
 
--- branch_flow: the coefficients of vm squared, wr and wi in p_from, q_from, p_to, q_to
-unfoldable pub coefficients : (g b gfr bfr gto bto tap shift : Float) → List Float
-coefficients g b gfr bfr gto bto tap shift =
-    let tap² = tap ⊗ tap in
-    let tr = tap ⊗ cosine shift in
-    let ti = tap ⊗ sine shift in
-    (g ⊕ gfr) ⊘ tap² ∷ (neg g ⊗ tr ⊕ b ⊗ ti) ⊘ tap² ∷ (neg b ⊗ tr ⊖ g ⊗ ti) ⊘ tap²
-    ∷ neg (b ⊕ bfr) ⊘ tap² ∷ (b ⊗ tr ⊕ g ⊗ ti) ⊘ tap² ∷ (neg g ⊗ tr ⊕ b ⊗ ti) ⊘ tap²
-    ∷ g ⊕ gto ∷ (neg g ⊗ tr ⊖ b ⊗ ti) ⊘ tap² ∷ (b ⊗ tr ⊖ g ⊗ ti) ⊘ tap²
-    ∷ neg (b ⊕ bto) ∷ (b ⊗ tr ⊖ g ⊗ ti) ⊘ tap² ∷ (g ⊗ tr ⊕ b ⊗ ti) ⊘ tap² ∷ []
+-- branch_flow: the coefficients of vm squared, wr and wi in p_from, q_from, p_to, q_to of branch r
+unfoldable pub coefficientsOf : Branch → List Float
+coefficientsOf r =
+    let g = r .g in
+    let b = r .b in
+    let tap² = r .tap ⊗ r .tap in
+    let tr = r .tap ⊗ cosine (r .shift) in
+    let ti = r .tap ⊗ sine (r .shift) in
+    (g ⊕ r .«g_fr») ⊘ tap² ∷ (neg g ⊗ tr ⊕ b ⊗ ti) ⊘ tap² ∷ (neg b ⊗ tr ⊖ g ⊗ ti) ⊘ tap²
+    ∷ neg (b ⊕ r .«b_fr») ⊘ tap² ∷ (b ⊗ tr ⊕ g ⊗ ti) ⊘ tap² ∷ (neg g ⊗ tr ⊕ b ⊗ ti) ⊘ tap²
+    ∷ g ⊕ r .«g_to» ∷ (neg g ⊗ tr ⊖ b ⊗ ti) ⊘ tap² ∷ (b ⊗ tr ⊖ g ⊗ ti) ⊘ tap²
+    ∷ neg (b ⊕ r .«b_to») ∷ (b ⊗ tr ⊖ g ⊗ ti) ⊘ tap² ∷ (g ⊗ tr ⊕ b ⊗ ti) ⊘ tap² ∷ []
 
-abbrev pub branchCoefficients : List ℕ → List Float → ℕ → List Float
-branchCoefficients ws xs b =
-    coefficients (lineG ws xs b) (lineB ws xs b) (gFr ws xs b) (bFr ws xs b) (gTo ws xs b) (bTo ws xs b) (tap ws xs b) (shift ws xs b)
+-- those of branch b
+abbrev pub coefficients : List ℕ → List Float → ℕ → List Float
+coefficients ws xs b = coefficientsOf (branchRecord ws xs b)
 
 -- ---- complex numbers
 

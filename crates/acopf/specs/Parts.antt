@@ -6,7 +6,7 @@ use lib.Ieee.{Float, nan}
 use Rattle.base.specs.Loop.{table, each}
 use Rattle.nl.specs.Expr.{Expr, column, shared}
 use Rattle.network.specs.Network.{buses, branches, from, to, vaColumn, vmColumn}
-use Rattle.acopf.specs.Flow.{branchCoefficients}
+use Rattle.acopf.specs.Flow.{coefficients}
 use Rattle.acopf.specs.Build.{subtract, multiply, square, cosineOf, sineOf, scaled, sum}
 
 module _ (ws : List ℕ) where
@@ -54,7 +54,7 @@ module _ (ws : List ℕ) (xs : List Float) where
   -- branch_flow: "angle, voltage product, wr, wi, p_from, q_from, p_to, q_to"
   unfoldable pub branchParts : ℕ → List Expr
   branchParts b =
-      let cs = branchCoefficients ws xs b in
+      let cs = coefficients ws xs b in
       angleDifference ws b
       ∷ multiply (column (vmColumn ws (from ws b))) (column (vmColumn ws (to ws b)))
       ∷ multiply (voltageProduct ws b) (cosineOf (angle ws b))

@@ -9,7 +9,8 @@ use Rattle.float.specs.Number.{_⊗_, zero64, one64}
 use Rattle.nl.specs.Expr.{Expr, column}
 use Rattle.bounds.specs.Bounds.{huge64}
 pub use Rattle.network.specs.Network.{rated}
-use Rattle.network.specs.Network.{buses, generators, branches, references, busOf, from, to, angled, referred, curveAt, segments, curved, vaColumn, pgColumn, qgColumn, epigraphColumn, pD, qD, gS, bS, angleMin, angleMax, sMax}
+use Rattle.network.specs.Network.{buses, generators, branches, references, busOf, from, to, angled, referred, curveAt, segments, curved}
+use Rattle.network.specs.Network.{vaColumn, pgColumn, qgColumn, epigraphColumn, pD, qD, gS, bS, angleMin, angleMax, sMax}
 use Rattle.acopf.specs.Curve.{slope, intercept}
 use Rattle.acopf.specs.Build.{literal, add, subtract, square, scaled, sum}
 use Rattle.acopf.specs.Parts.{vmSquared, pFrom, qFrom, pTo, qTo, angleDifference}
@@ -37,7 +38,8 @@ module _ (ws : List ℕ) (xs : List Float) where
       balanced (sum (
       literal demand ∷ scaled shunt (vmSquared ws i)
       ∷ each (generators ws) (λ g. keep (eqb (busOf ws g) i) (column (generatorColumn g)))
-      ++ each (branches ws) (λ b. keep (eqb (from ws b) i) (scaled (neg one64) (atFrom b)) ++ keep (eqb (to ws b) i) (scaled (neg one64) (atTo b)))))
+      ++ each (branches ws) (λ b. keep (eqb (from ws b) i) (scaled (neg one64) (atFrom b))
+      ++ keep (eqb (to ws b) i) (scaled (neg one64) (atTo b)))))
 
   unfoldable pub pBalance : ℕ → Row
   pBalance i = balanceRow i (neg (pD ws xs i)) (neg (gS ws xs i)) (pgColumn ws) (pFrom ws) (pTo ws)
@@ -61,7 +63,8 @@ module _ (ws : List ℕ) (xs : List Float) where
   -- the epigraph column less slope times pg plus intercept
   unfoldable pub segmentRow : ℕ → ℕ → Row
   segmentRow g s =
-      margin (subtract (column (epigraphColumn ws g)) (add (scaled (slope xs (curveAt ws g) s) (column (pgColumn ws g))) (literal (intercept xs (curveAt ws g) s))))
+      margin (subtract (column (epigraphColumn ws g))
+      (add (scaled (slope xs (curveAt ws g) s) (column (pgColumn ws g))) (literal (intercept xs (curveAt ws g) s))))
 
   unfoldable pub segmentRows : ℕ → List Row
   segmentRows g = cond (curved ws g) (table (segments ws g) (segmentRow g)) []

@@ -68,7 +68,8 @@ impl PiecewiseCost {
     // The largest over the segments, whichever curve the tables were made from.
     pub fn evaluate(self, power: f64) -> f64
         requires { ⌜ self .count ≤ 15 ⌝ }
-        ensures { λ r. ⌜ ((xs : List Float) (at : ℕ) → Prepared xs at (self .count) (self .slopes) (self .intercepts) → r ≡ evaluate xs at (self .count) power) ⌝ }
+        ensures { λ r. ⌜ ((xs : List Float) (at : ℕ) → Prepared xs at (self .count) (self .slopes) (self .intercepts)
+            → r ≡ evaluate xs at (self .count) power) ⌝ }
     {
         let slopes = self.slopes;
         let intercepts = self.intercepts;

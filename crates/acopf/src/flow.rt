@@ -9,67 +9,32 @@ use crate::complex::quotient;
 use crate::complex::times;
 use network::Branch;
 ghost use mathlib.Core.Path.{_≡_};
-ghost use Prim.Native.Nat.{_+_, _≤_};
-ghost use lib.ListN.{length};
-ghost use Rattle.acopf.specs.Flow.{flowAt, selfFrom, transferFrom, selfTo, transferTo, flowOf};
-ghost use Rattle.acopf.specs.contracts.Leaf.{branchRow, rowCoefficients, coefficientsAt};
+ghost use Rattle.acopf.specs.Flow.{coefficientsOf, flowAt, selfFrom, transferFrom, selfTo, transferTo, flowOf};
 
-// The branch's numbers, from g to s_max.
-pub fn branch_row(numbers: &[f64], at: usize) -> [f64; 11]
-    requires { ⌜ at + 11 ≤ length (now numbers) ⌝ }
-    ensures { λ r. ⌜ r ≡ branchRow (now (numbers .entry)) at ⌝ }
+// branch_flow's coefficients: of vm squared, wr and wi in p_from, then in q_from, p_to and q_to.
+pub fn coefficients(branch: Branch) -> [f64; 12]
+    ensures { λ r. ⌜ r ≡ coefficientsOf branch ⌝ }
 {
-    [
-        numbers[at],
-        numbers[at + 1],
-        numbers[at + 2],
-        numbers[at + 3],
-        numbers[at + 4],
-        numbers[at + 5],
-        numbers[at + 6],
-        numbers[at + 7],
-        numbers[at + 8],
-        numbers[at + 9],
-        numbers[at + 10],
-    ]
-}
-
-fn row_coefficients(row: [f64; 11]) -> [f64; 12]
-    ensures { λ r. ⌜ r ≡ rowCoefficients row ⌝ }
-{
-    let g = row[0];
-    let b = row[1];
-    let g_fr = row[2];
-    let b_fr = row[3];
-    let g_to = row[4];
-    let b_to = row[5];
-    let tap = row[6];
-    let shift = row[7];
+    let g = branch.g;
+    let b = branch.b;
+    let tap = branch.tap;
     let tap_squared = tap * tap;
-    let tr = tap * fdlibm::cos(shift);
-    let ti = tap * fdlibm::sin(shift);
+    let tr = tap * fdlibm::cos(branch.shift);
+    let ti = tap * fdlibm::sin(branch.shift);
     [
-        (g + g_fr) / tap_squared,
+        (g + branch.g_fr) / tap_squared,
         (-g * tr + b * ti) / tap_squared,
         (-b * tr - g * ti) / tap_squared,
-        -(b + b_fr) / tap_squared,
+        -(b + branch.b_fr) / tap_squared,
         (b * tr + g * ti) / tap_squared,
         (-g * tr + b * ti) / tap_squared,
-        g + g_to,
+        g + branch.g_to,
         (-g * tr - b * ti) / tap_squared,
         (b * tr - g * ti) / tap_squared,
-        -(b + b_to),
+        -(b + branch.b_to),
         (b * tr - g * ti) / tap_squared,
         (g * tr + b * ti) / tap_squared,
     ]
-}
-
-// branch_flow's coefficients: of vm squared, wr and wi in p_from, then in q_from, p_to and q_to.
-pub fn coefficients(numbers: &[f64], at: usize) -> [f64; 12]
-    requires { ⌜ at + 11 ≤ length (now numbers) ⌝ }
-    ensures { λ r. ⌜ r ≡ coefficientsAt (now (numbers .entry)) at ⌝ }
-{
-    row_coefficients(branch_row(numbers, at))
 }
 
 // The four admittances. At the other end the shift is turned the other way.

@@ -15,7 +15,6 @@ pub use complex::polar;
 pub use curve::curve_value;
 pub use curve::intercept_of;
 pub use curve::slope_of;
-pub use flow::branch_row;
 pub use flow::coefficients;
 pub use flow::numeric_branch_flow;
 pub use objective::objective_constant;

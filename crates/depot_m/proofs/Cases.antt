@@ -23,7 +23,7 @@ use Rattle.bounds.specs.Bounds.{swing64, huge64, finiteOr, clampStart, boundsRi
 use Rattle.network.specs.Fault.{wordRight, faultWords, faultSize, faultCount}
 use Rattle.tables.specs.Fault.{blanks, faultBlank, faultCurve, faultShift, faultBounds, faultSpread, faultRating, faultSquare, branchFault, faultBranches, faultTables}
 use Rattle.acopf.specs.Curve.{slope, intercept, evaluate}
-use Rattle.acopf.specs.Flow.{coefficients, flowAt, flowOf, flow}
+use Rattle.acopf.specs.Flow.{coefficientsOf, flowAt, flowOf, flow}
 use Rattle.acopf.specs.Columns.{vmLower, vmUpper, pgLower, pgUpper, qgLower, qgUpper, vaStart, vmStart, pgStart, qgStart, epigraphStart, columnLower, columnUpper, columnStart}
 use Rattle.acopf.specs.Parts.{branchParts, sharedParts}
 use Rattle.acopf.specs.Rows.{balanceRow, pBalance as pBalanceModel, qBalance as qBalanceModel, thermalRows, segmentRow, segmentRows, rows, rowLower, rowUpper}
@@ -201,7 +201,7 @@ cases =
     ∷ []
 
 all-right : T (all cases)
-unfolding loop table each tally unless orElse first isFinite absolute maximum kernelSin kernelCos remPio2 nearPositive nearNegative signed firstIteration secondIteration noCancellation cosine sine sinReduced cosReduced bitByBit normalized squareRoot scaled middle small endless ordered hypotenuse loadFor words wordsOf constants constantsOf partWords modelWords modelConstants wordOk arity uses readHead readExpr isMark readParts readLast readEnd findAfter find findRow rowWords loadRight kindBefore buses generators branches references generatorAt branchAt needed epigraphsBefore columns finiteOr clampStart boundsRight angleRight positiveViolation wordRight faultWords faultSize blanks faultCount faultBlank faultCurve faultShift faultBounds faultSpread faultRating faultSquare branchFault faultBranches faultTables slope intercept evaluate coefficients flowAt flowOf flow vmLower vmUpper pgLower pgUpper qgLower qgUpper vaStart vmStart pgStart qgStart epigraphStart columnLower columnUpper columnStart branchParts sharedParts balanceRow pBalanceModel qBalanceModel thermalRows segmentRow segmentRows rows rowLower rowUpper costTerm objective objectiveConstant model fileWords firstNonFinite constants64 faultFactor networkFault lengths faultShort compileFault refused accepted compiled injected withdrawn pInjection qInjection cost ownObjective flows outputs largest largestWhere pBalanceCheck qBalanceCheck activeBalance reactiveBalance thermalLimits variableBounds referenceAngles angleLimits epigraphs objectiveDifference residuals tolerances solved faultOutput faultPoint faultSwing faultDerived faultResidual faultOf checkFault checked add sub mul div neg ofBits toBits toUnsigned ofInt round lt le eq ne d all sameList compiles prints starts compileRefuses answers finds cases wordAt bitsAt formed inputWords inputNumbers hexLine hexLines decimalWithin refusedLine networkText output
+unfolding loop table each tally unless orElse first isFinite absolute maximum kernelSin kernelCos remPio2 nearPositive nearNegative signed firstIteration secondIteration noCancellation cosine sine sinReduced cosReduced bitByBit normalized squareRoot scaled middle small endless ordered hypotenuse loadFor words wordsOf constants constantsOf partWords modelWords modelConstants wordOk arity uses readHead readExpr isMark readParts readLast readEnd findAfter find findRow rowWords loadRight kindBefore buses generators branches references generatorAt branchAt needed epigraphsBefore columns finiteOr clampStart boundsRight angleRight positiveViolation wordRight faultWords faultSize blanks faultCount faultBlank faultCurve faultShift faultBounds faultSpread faultRating faultSquare branchFault faultBranches faultTables slope intercept evaluate coefficientsOf flowAt flowOf flow vmLower vmUpper pgLower pgUpper qgLower qgUpper vaStart vmStart pgStart qgStart epigraphStart columnLower columnUpper columnStart branchParts sharedParts balanceRow pBalanceModel qBalanceModel thermalRows segmentRow segmentRows rows rowLower rowUpper costTerm objective objectiveConstant model fileWords firstNonFinite constants64 faultFactor networkFault lengths faultShort compileFault refused accepted compiled injected withdrawn pInjection qInjection cost ownObjective flows outputs largest largestWhere pBalanceCheck qBalanceCheck activeBalance reactiveBalance thermalLimits variableBounds referenceAngles angleLimits epigraphs objectiveDifference residuals tolerances solved faultOutput faultPoint faultSwing faultDerived faultResidual faultOf checkFault checked add sub mul div neg ofBits toBits toUnsigned ofInt round lt le eq ne d all sameList compiles prints starts compileRefuses answers finds cases wordAt bitsAt formed inputWords inputNumbers hexLine hexLines decimalWithin refusedLine networkText output
 all-right = tt
 
 -- the constants that the definitions name by their bits are 0, 0.5, 1, 1024, 1e19 and 1e-6

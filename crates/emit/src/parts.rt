@@ -15,7 +15,7 @@ use crate::writer::put;
 use acopf::coefficients;
 use network::Layout;
 use network::branch_from;
-use network::branch_start;
+use network::branch_of;
 use network::branch_to;
 ghost use mathlib.Core.List.{[], _∷_};
 ghost use Prim.Native.Nat.{_+_, _<_, _≤_};
@@ -247,7 +247,7 @@ fn branch_flow(
     let w = words[first + b];
     let from = branch_from(w);
     let to = branch_to(w);
-    let cs = coefficients(numbers, branch_start(words, layout, b));
+    let cs = coefficients(branch_of(words, numbers, layout, b));
     branch_parts(n, n + 8 * b, from, to, cs, file, constants, writer)
 }
 

@@ -19,8 +19,8 @@ use Rattle.acopf.specs.Factor.{constants64}
 use Rattle.acopf.specs.Model.{objectiveConstant}
 use Rattle.acopf.specs.Tallies.{Tallied}
 use Rattle.acopf.specs.declared.tallies.Tallies.{Tallies}
-use Rattle.factor.specs.NonFinite.{nonFinite, epigraphsFactor}
-use Rattle.factor.proofs.Sizes.{objectiveConstants, count-of-constants}
+use Rattle.factor.specs.contracts.NonFinite.{nonFinite, epigraphsFactor}
+use Rattle.acopf.proofs.Sizes.{objectiveConstants, count-of-constants}
 
 module _ (ws : List ℕ) (xs : List Float) {l : Layout} {t : Tallies} (L : Laid ws xs l) (T : Tallied ws xs t) where
   abbrev firstSlope : ℕ

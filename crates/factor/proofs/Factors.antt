@@ -11,7 +11,7 @@ use lib.Dec.{T}
 use lib.Ieee.{Float, nan, binary64, toBits, ofBits, fits, div}
 use lib.Ieee.Fits.{neg-fits, add-fits, sub-fits, div-fits}
 use Rattle.base.specs.declared.Fault.{Fault}
-use Rattle.base.specs.Fault.{fault, clear, unless, orElse, first}
+use Rattle.base.specs.Fault.{fault, clear, unless, orElse}
 use Rattle.base.specs.Loop.{loop, table, each, keep}
 use Rattle.base.proofs.Firsts.{Clear}
 use Rattle.base.proofs.Loops.{Every, every-nil, every-cons, every-append, every-table, length-table, length-each, length-kept}
@@ -27,14 +27,16 @@ use Rattle.acopf.specs.Build.{square, terms}
 use Rattle.acopf.specs.Columns.{vmLower, vmUpper, pgLower, pgUpper, qgLower, qgUpper, vaStart, vmStart, pgStart, qgStart, epigraphStart, columnStart}
 use Rattle.acopf.specs.Curve.{slope, intercept}
 use Rattle.acopf.specs.Factor.{firstNonFinite, constants64, faultFactor}
-use Rattle.acopf.specs.Flow.{coefficients, branchCoefficients}
+use Rattle.acopf.specs.Flow.{coefficientsOf, coefficients}
 use Rattle.acopf.specs.Model.{objective, objectiveConstant, model}
-use Rattle.factor.specs.NonFinite.{nonFinite, coefficientsFault, curveFault, rowSegments, segmentsBefore, branchesFactor, curvesFactor, epigraphsFactor}
+use Rattle.acopf.specs.Tallies.{rowSegments, segmentsBefore}
+use Rattle.factor.specs.contracts.NonFinite.{nonFinite, coefficientsFault, curveFault, branchesFactor, curvesFactor, epigraphsFactor}
 use Rattle.acopf.specs.Parts.{branchParts, sharedParts}
 use Rattle.acopf.specs.Rows.{Row, segmentRow, segmentRows, rows}
 use Rattle.factor.proofs.Fine.{finiteBits, FiniteBits, FineRow, rows-fine, objective-fine}
-use Rattle.factor.proofs.Numbers.{back-finite, zero-finite, huge-finite, low-finite, bound-finite, finite-or-finite, start-finite}
-use Rattle.factor.proofs.Sizes.{firstRows, ratings, shared-constants, first-constants}
+use Rattle.acopf.proofs.Finite.{zero-finite, huge-finite, low-finite, bound-finite}
+use Rattle.factor.proofs.Numbers.{back-finite, finite-or-finite, start-finite}
+use Rattle.acopf.proofs.Sizes.{firstRows, ratings, shared-constants, first-constants}
 
 -- ---- the constants of expressions, one after the other
 
@@ -65,12 +67,12 @@ first-from l = first-same (length l) _ _ (λ i h. ap (nonFinite (getD l i nan)) 
 module _ (ws : List ℕ) (xs : List Float) where
   -- ---- coefficients
 
-  part-constants : (b : ℕ) → gather constants (branchParts ws xs b) ≡ map (toBits binary64) (branchCoefficients ws xs b)
-  unfolding branchParts coefficients gather constants
+  part-constants : (b : ℕ) → gather constants (branchParts ws xs b) ≡ map (toBits binary64) (coefficients ws xs b)
+  unfolding branchParts coefficientsOf gather constants
   part-constants b = refl
 
-  coefficients-kept : (b : ℕ) → Every (λ j x. finiteBits (toBits binary64 x) ≡ isFinite x) 0 (branchCoefficients ws xs b)
-  unfolding coefficients
+  coefficients-kept : (b : ℕ) → Every (λ j x. finiteBits (toBits binary64 x) ≡ isFinite x) 0 (coefficients ws xs b)
+  unfolding coefficientsOf
   coefficients-kept b =
       every-cons (over _ _) (every-cons (over _ _) (every-cons (over _ _) (every-cons (over _ _) (every-cons (over _ _) (every-cons (over _ _)
       (every-cons (back-finite _ (add-fits binary64 _ _)) (every-cons (over _ _) (every-cons (over _ _)
@@ -79,19 +81,19 @@ module _ (ws : List ℕ) (xs : List Float) where
       over : (x y : Float) → finiteBits (toBits binary64 (div binary64 x y)) ≡ isFinite (div binary64 x y)
       over x y = back-finite (div binary64 x y) (div-fits binary64 x y)
 
-  coefficients-are : (b k : ℕ) → firstBits k (gather constants (branchParts ws xs b)) ≡ coefficientsFault (branchCoefficients ws xs b) k
-  unfolding coefficientsFault coefficients
+  coefficients-are : (b k : ℕ) → firstBits k (gather constants (branchParts ws xs b)) ≡ coefficientsFault (coefficients ws xs b) k
+  unfolding coefficientsFault coefficientsOf
   coefficients-are b k =
-      ap (firstBits k) (part-constants b) ∙ failing-map 11 finiteBits (toBits binary64) k (branchCoefficients ws xs b)
-      ∙ failing-same 11 (λ x. finiteBits (toBits binary64 x)) isFinite 0 k (branchCoefficients ws xs b) (coefficients-kept b .all)
-      ∙ sym (failing-at 11 isFinite (omega arith) nan k (branchCoefficients ws xs b))
+      ap (firstBits k) (part-constants b) ∙ failing-map 11 finiteBits (toBits binary64) k (coefficients ws xs b)
+      ∙ failing-same 11 (λ x. finiteBits (toBits binary64 x)) isFinite 0 k (coefficients ws xs b) (coefficients-kept b .all)
+      ∙ sym (failing-at 11 isFinite (omega arith) nan k (coefficients ws xs b))
 
   shared-are : firstBits 0 (constantsOf (terms (sharedParts ws xs))) ≡ branchesFactor ws xs
-  unfolding sharedParts branchesFactor coefficients
+  unfolding sharedParts branchesFactor coefficientsOf
   shared-are =
       ap (firstBits 0) (constants-gather (sharedParts ws xs) ∙ gather-append constants squares parts ∙ ap₂ (λ l m. l ++ m) no-squares (gather-each constants (branches ws) (branchParts ws xs)))
       ∙ failing-turns 11 finiteBits 12 0 (branches ws) (λ b. gather constants (branchParts ws xs b)) (λ b. ap length (part-constants b))
-      ∙ first-same (branches ws) _ _ (λ b l. coefficients-are b (0 + 12 * b) ∙ ap (coefficientsFault (branchCoefficients ws xs b)) (zero-add (12 * b)))
+      ∙ first-same (branches ws) _ _ (λ b l. coefficients-are b (0 + 12 * b) ∙ ap (coefficientsFault (coefficients ws xs b)) (zero-add (12 * b)))
     where
       squares : List Expr
       squares = table (buses ws) (λ i. square (column (vmColumn ws i)))

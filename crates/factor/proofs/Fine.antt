@@ -12,7 +12,7 @@ use Rattle.base.specs.Loop.{table, each, keep}
 use Rattle.base.proofs.Firsts.{Clear}
 use Rattle.base.proofs.Loops.{AllFrom, Every, all-append, every-cons, every-append, every-table, every-each, every-keep}
 use Rattle.float.specs.Number.{_⊗_, zero64, half64, one64, isFinite}
-use Rattle.nl.specs.Expr.{Expr, Terms, none, more, column, shared, constant, over, constants, constantsOf}
+use Rattle.nl.specs.Expr.{Expr, Terms, none, more, column, shared, over, constants, constantsOf}
 use Rattle.tables.specs.Fault.{faultTables}
 use Rattle.network.specs.Network.{buses, generators, branches, references, costs, busOf, from, to, angled, limited, sMax, curved, pgColumn, epigraphColumn, costQ, costC}
 use Rattle.network.proofs.Places.{and-left}
@@ -21,7 +21,7 @@ use Rattle.tables.proofs.Required.{p-d-finite, q-d-finite, g-s-finite, b-s-fini
 use Rattle.acopf.specs.Build.{literal, scaled, square, sum, terms}
 use Rattle.acopf.specs.Model.{costTerm, objective}
 use Rattle.acopf.specs.Rows.{Row, balanceRow, pBalance, qBalance, rated, thermalRows}
-use Rattle.factor.proofs.Sizes.{firstRows}
+use Rattle.acopf.proofs.Sizes.{firstRows}
 use Rattle.factor.proofs.Numbers.{neg-finite, back-finite, half-finite}
 
 -- the test of a constant, by its bits

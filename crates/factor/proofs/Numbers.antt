@@ -1,6 +1,6 @@
 -- Numbers that stay finite: a negation, a half, and a start between finite bounds.
 use mathlib.Core.Path.{_≡_, refl, ap, sym, _∙_}
-use mathlib.Core.Bool.{Bool, true, false, cond, not, true≢false, false≢true}
+use mathlib.Core.Bool.{Bool, true, false, cond, true≢false, false≢true}
 use Prim.Native.Nat.{ℕ, zero, suc, _+_, _-_, _*_, _/_, _%_, _^_, _≤_, _<_, compare}
 use native.Mathlib.Omega.{arith}
 use native.Mathlib.Nat.{one-mul, mul-left-comm}
@@ -14,7 +14,8 @@ use Rattle.float.specs.Number.{_⊗_, half64, zero64, isFinite, absolute}
 use Rattle.float.proofs.Really.{Signed, round-signed}
 use Rattle.float.proofs.Values.{value-finite, mul-at, round-units}
 use Rattle.float.proofs.Patterns.{absolute-bits, absolute-fits, finite-bits, pattern-value, worth, digits, place, digits-lt}
-use Rattle.bounds.specs.Bounds.{huge64, finiteOr, clampStart}
+use Rattle.bounds.specs.Bounds.{finiteOr, clampStart}
+use Rattle.acopf.proofs.Finite.{zero-finite}
 
 pub neg-finite : (x : Float) → isFinite x ≡ true → isFinite (neg x) ≡ true
 unfolding neg isFinite
@@ -87,23 +88,6 @@ half-finite x f h =
     (round-sign binary64 _ (1 * worth n) (2 * 2 ^ 1074) ∙ half-round (worth n) (2 ^ 1074) (pow-pos 1074) whole)
 
 -- ---- starts
-
-pub zero-finite : isFinite zero64 ≡ true
-unfolding ofBits isFinite
-zero-finite = refl
-
-pub huge-finite : isFinite huge64 ≡ true
-unfolding ofBits isFinite
-huge-finite = refl
-
-pub low-finite : isFinite (neg huge64) ≡ true
-unfolding ofBits neg isFinite
-low-finite = refl
-
--- the table's bound where its flag is set, else the given one
-pub bound-finite : (flag : Bool) (x y : Float) → (flag ≡ true → isFinite x ≡ true) → isFinite y ≡ true → isFinite (cond flag x y) ≡ true
-bound-finite true x y h k = h refl
-bound-finite false x y h k = k
 
 -- one of two
 either-finite : (b : Bool) (x y : Float) → isFinite x ≡ true → isFinite y ≡ true → isFinite (cond b x y) ≡ true

@@ -1,2 +1,3 @@
 pub mod NonFinite
 pub mod Judged
+pub mod contracts

@@ -27,7 +27,8 @@ fn with_cost(sum: f64, added: bool, c0: f64) -> f64
 
 // The objective constant of k generators.
 pub fn objective_constant(words: &[u32], numbers: &[f64], n: usize, k: usize, priced: bool) -> f64
-    requires { ⌜ (n ≡ buses (now words)) × (k ≡ generators (now words)) × (priced ≡ costs (now words)) × (faultTables (now words) (now numbers) .number ≡ 0) ⌝ }
+    requires { ⌜ (n ≡ buses (now words)) × (k ≡ generators (now words)) × (priced ≡ costs (now words))
+        × (faultTables (now words) (now numbers) .number ≡ 0) ⌝ }
     ensures { λ r. ⌜ r ≡ objectiveConstant (now (words .entry)) (now (numbers .entry)) ⌝ }
 {
     let mut sum = 0.0;

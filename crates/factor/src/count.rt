@@ -12,8 +12,8 @@ ghost use Rattle.base.specs.Loop.{tally};
 ghost use Rattle.float.specs.Number.{zero64};
 ghost use Rattle.network.specs.Word.{branchLimited};
 ghost use Rattle.network.specs.Network.{buses, generators, branches, costs, generatorAt, epigraphsBefore};
-ghost use Rattle.factor.specs.NonFinite.{segmentsBefore};
 ghost use Rattle.acopf.specs.Rows.{rated};
+ghost use Rattle.acopf.specs.Tallies.{segmentsBefore};
 
 // Whether a generator's curve has an epigraph column.
 pub fn is_curved(priced: bool, points: usize) -> bool

@@ -1,5 +1,5 @@
-// Refusal 11, factor: the first number of the model that is not finite. Of a network that 1 to 10 do not refuse only the numbers looked at here
-// can be non-finite.
+// Refusal 11, factor: the first number of the model that is not finite. Of a network that 1 to 10 do not refuse only the numbers looked
+// at here can be non-finite.
 use acopf::Tallies;
 use acopf::coefficients;
 use acopf::counted;
@@ -12,7 +12,7 @@ use acopf::slope_of;
 use base::Fault;
 use base::refusal;
 use network::Layout;
-use network::branch_start;
+use network::branch_of;
 use network::first_generator;
 use network::generator_of;
 use network::next_generator;
@@ -29,7 +29,8 @@ ghost use Rattle.acopf.specs.Curve.{slope, intercept};
 ghost use Rattle.acopf.specs.Factor.{faultFactor};
 ghost use Rattle.acopf.specs.Model.{objectiveConstant};
 ghost use Rattle.acopf.specs.Tallies.{Tallied};
-ghost use Rattle.factor.specs.NonFinite.{nonFinite, coefficientsFault, curveFault, branchesFactor, curvesFactor, epigraphsFactor, curvesOn};
+ghost use Rattle.factor.specs.contracts.NonFinite.{nonFinite, coefficientsFault, curveFault};
+ghost use Rattle.factor.specs.contracts.NonFinite.{branchesFactor, curvesFactor, epigraphsFactor, curvesOn};
 
 // A branch's coefficients, of which the first is the constant `place`.
 fn coefficients_fault(cs: [f64; 12], place: usize) -> Fault
@@ -56,8 +57,8 @@ fn branches_factor(words: &[u32], numbers: &[f64], layout: Layout) -> Fault
 {
     let mut b = 0usize;
     while b < layout.branches {
-        let at = branch_start(words, layout, b);
-        let f = coefficients_fault(coefficients(numbers, at), 12 * b);
+        let branch = branch_of(words, numbers, layout, b);
+        let f = coefficients_fault(coefficients(branch), 12 * b);
         if f.number != 0 {
             return f;
         }
@@ -69,7 +70,8 @@ fn branches_factor(words: &[u32], numbers: &[f64], layout: Layout) -> Fault
 // A segment's slope and intercept.
 fn segment_fault(numbers: &[f64], at: usize, segment: usize, place: usize) -> Fault
     requires { ⌜ (at + 2 * segment + 4 ≤ length (now numbers)) × (place ≤ 0xffff) ⌝ }
-    ensures { λ r. ⌜ r ≡ orElse (nonFinite (slope (now (numbers .entry)) at segment) place) (nonFinite (intercept (now (numbers .entry)) at segment) (place + 1)) ⌝ }
+    ensures { λ r. ⌜ r ≡ orElse (nonFinite (slope (now (numbers .entry)) at segment) place)
+        (nonFinite (intercept (now (numbers .entry)) at segment) (place + 1)) ⌝ }
 {
     if !float::is_finite(slope_of(numbers, at, segment)) {
         return Fault {
@@ -172,7 +174,8 @@ fn later_factor(words: &[u32], numbers: &[f64], layout: Layout, count: usize) ->
 
 // The curves' constants, then what follows the constants.
 fn curves_on(words: &[u32], numbers: &[f64], layout: Layout, tallies: Tallies) -> Fault
-    requires { ⌜ (Laid (now words) (now numbers) layout) × (Tallied (now words) (now numbers) tallies) × (faultTables (now words) (now numbers) .number ≡ 0) ⌝ }
+    requires { ⌜ (Laid (now words) (now numbers) layout) × (Tallied (now words) (now numbers) tallies)
+        × (faultTables (now words) (now numbers) .number ≡ 0) ⌝ }
     ensures { λ r. ⌜ r ≡ curvesOn (now (words .entry)) (now (numbers .entry)) ⌝ }
 {
     let start = 4 * layout.buses + 16 * layout.branches + 2 * tallies.rated;
@@ -186,7 +189,8 @@ fn curves_on(words: &[u32], numbers: &[f64], layout: Layout, tallies: Tallies) -
 
 // Of a network that 1 to 10 do not refuse, with its layout and what is counted of it.
 pub fn factor_fault(words: &[u32], numbers: &[f64], layout: Layout, tallies: Tallies) -> Fault
-    requires { ⌜ (Laid (now words) (now numbers) layout) × (Tallied (now words) (now numbers) tallies) × (faultTables (now words) (now numbers) .number ≡ 0) ⌝ }
+    requires { ⌜ (Laid (now words) (now numbers) layout) × (Tallied (now words) (now numbers) tallies)
+        × (faultTables (now words) (now numbers) .number ≡ 0) ⌝ }
     ensures { λ r. ⌜ r ≡ faultFactor (now (words .entry)) (now (numbers .entry)) ⌝ }
 {
     let branch = branches_factor(words, numbers, layout);

@@ -18,7 +18,7 @@ use Rattle.nl.specs.Expr.{Expr, Terms, none, more, column, shared, over, consta
 use Rattle.nl.specs.File.{modelConstants}
 use Rattle.network.specs.Network.{buses, generators, branches, references, costs, busOf, from, to, angled, segments, curved, vmColumn, pgColumn, epigraphColumn, costQ, costC}
 use Rattle.acopf.specs.Curve.{slope, intercept}
-use Rattle.acopf.specs.Flow.{coefficients}
+use Rattle.acopf.specs.Flow.{coefficientsOf}
 use Rattle.acopf.specs.Build.{literal, scaled, square, sum, terms}
 use Rattle.acopf.specs.Parts.{branchParts, sharedParts}
 use Rattle.acopf.specs.Rows.{balanceRow, pBalance, qBalance, rated, thermalRows, segmentRow, segmentRows, rows}
@@ -87,7 +87,7 @@ minus-one = neg-fits binary64 one64 (ofBits-fits binary64 _)
 
 module _ (ws : List ℕ) (xs : List Float) (F : Doubles xs) where
   branch-patterned : (b i : ℕ) → Every (λ i. Patterned) i (branchParts ws xs b)
-  unfolding branchParts coefficients
+  unfolding branchParts coefficientsOf
   branch-patterned b i =
       every-cons (patterned-two (patterned-column _) (patterned-column _))
       (every-cons (patterned-two (patterned-column _) (patterned-column _))

@@ -56,7 +56,9 @@ array-read-t24 c = search needs
 
 returns : tie.Need-returns
 returns c =
-    joined _ _ _ (c .before .before .before .before .before .before .polar .ensures) (c .before .before .before .before .before .self-from .ensures) (c .before .before .before .before .transfer-from .ensures) (c .before .before .before .flow-at .ensures) (c .before .before .self-to .ensures) (c .before .transfer-to .ensures) (c .flow-at2 .ensures)
+    let from = c .before .before .before .flow-at .ensures in
+    let to = c .flow-at2 .ensures in
+    joined _ _ _ (c .before .before .before .before .before .before .polar .ensures) (c .before .before .before .before .before .self-from .ensures) (c .before .before .before .before .transfer-from .ensures) from (c .before .before .self-to .ensures) (c .before .transfer-to .ensures) to
 
 pub numeric-branch-flow-spec : {M : Type 1} → statement M
 numeric-branch-flow-spec =

@@ -36,14 +36,16 @@ loop-less c = search needs
 loop-again : tie.Need-loop-again Inv-loop μ-loop
 loop-again c =
     let next = c .next-generator .ensures in
-    (next .0, rw (next .1) (costs-turn (c .before .before .before .before .before .before .before .before .before .before .before .before .pre) (c .before .before .before .before .generator-of .ensures) (c .before .with-cost .ensures) (c .before .before .before .before .before .before .before .before .loop .inv .1)))
+    let read = c .before .before .before .before .generator-of .ensures in
+    (next .0, rw (next .1) (costs-turn (c .before .before .before .before .before .before .before .before .before .before .before .before .pre) read (c .before .with-cost .ensures) (c .before .before .before .before .before .before .before .before .loop .inv .1)))
 
 returns : tie.Need-returns Inv-loop μ-loop
 unfolding objectiveConstant
 returns c =
-    let inv = c .before .before .before .loop .inv in
-    let e : c .before .before .before .loop .cursor .index ≡ generators (c .before .before .before .before .before .before .before .args .words .now) = omega (arith, ap (λ l. l .generators) (c .before .before .before .before .before .before .before .pre .words .is), inv .0 .within, c .if1 .left) in
-    rw e at (inv .1)
+    let loop = c .before .before .before .loop in
+    let its = ap (λ l. l .generators) (c .before .before .before .before .before .before .before .pre .words .is) in
+    let e : loop .cursor .index ≡ generators (c .before .before .before .before .before .before .before .args .words .now) = omega (arith, its, loop .inv .0 .within, c .if1 .left) in
+    rw e at (loop .inv .1)
 
 pub objective-constant-spec : {M : Type 1} → statement M
 objective-constant-spec =

@@ -15,31 +15,24 @@ Inv-loop words numbers layout angles₀ ratings₀ b₀ angles ratings b =
 abbrev μ-loop : tie.MeasureT-loop
 μ-loop words numbers layout angles₀ ratings₀ b₀ angles ratings b = layout .branches - b
 
--- src/tallies.rt:86:5
 loop-holds : tie.Need-loop-holds Inv-loop μ-loop
 loop-holds c = (omega arith, omega arith, omega arith, sym (tally-none _), sym (tally-none _))
 
--- src/tallies.rt:87:13
 branch-of-requires : tie.Need-branch-of-requires Inv-loop μ-loop
 branch-of-requires c κs = search needs
 
--- src/tallies.rt:88:9
 counted-requires : tie.Need-counted-requires Inv-loop μ-loop
 counted-requires c κs = omega (arith, c .before .before .before .before .before .before .pre .words .few-branches, c .before .before .before .loop .inv .0, c .before .before .before .loop .inv .1)
 
--- src/tallies.rt:89:9
 counted-requires-2 : tie.Need-counted-requires-2 Inv-loop μ-loop
 counted-requires-2 c κs = omega (arith, c .before .before .before .before .before .before .before .pre .words .few-branches, c .before .before .before .before .loop .inv .0, c .before .before .before .before .loop .inv .2)
 
--- src/tallies.rt:90:9
 add-b : tie.Need-add-b Inv-loop μ-loop
 add-b c = search needs
 
--- src/tallies.rt:86:5
 loop-less : tie.Need-loop-less Inv-loop μ-loop
 loop-less c = search needs
 
--- src/tallies.rt:86:5
 loop-again : tie.Need-loop-again Inv-loop μ-loop
 loop-again c =
     let inv = c .before .before .before .before .before .loop .inv in
@@ -51,7 +44,6 @@ loop-again c =
       rated-turn read (c .counted2 .ensures .0) (inv .4),
     )
 
--- src/tallies.rt:78:1
 returns : tie.Need-returns Inv-loop μ-loop
 returns c =
     let inv = c .before .before .loop .inv in

@@ -4,15 +4,12 @@ use borrow.Author.Needs.{needs}
 use Rattle.acopf.proofs.tallies.counted.Statement.{statement}
 use Rattle.acopf.proofs.tallies.counted.Tie as tie
 
--- src/tallies.rt:29:16
 add-result : tie.Need-add-result
 add-result c = search needs
 
--- src/tallies.rt:29:9
 returns : tie.Need-returns
 returns c = (rw (c .if1 .taken, add-one), omega arith)
 
--- src/tallies.rt:24:1
 returns-2 : tie.Need-returns-2
 returns-2 c = (rw (c .if1 .left), omega arith)
 

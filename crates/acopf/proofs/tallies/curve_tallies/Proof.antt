@@ -18,41 +18,35 @@ Inv-loop words numbers layout epigraphs₀ segments₀ cursor₀ epigraphs segme
 abbrev μ-loop : tie.MeasureT-loop
 μ-loop words numbers layout epigraphs₀ segments₀ cursor₀ epigraphs segments cursor = layout .generators - cursor .index
 
--- src/tallies.rt:59:9
 first-generator-requires : tie.Need-first-generator-requires Inv-loop μ-loop
 first-generator-requires c κs = search needs
 
--- src/tallies.rt:60:5
 loop-holds : tie.Need-loop-holds Inv-loop μ-loop
 loop-holds c =
     let first = c .first-generator .ensures in
     (first .0, rw (first .1) (omega arith), rw (first .1) (omega arith), rw (first .1) (sym (epigraphs-none _)), rw (first .1) (sym (segments-none _)))
 
--- src/tallies.rt:61:13
 generator-of-requires : tie.Need-generator-of-requires Inv-loop μ-loop
 generator-of-requires c κs = search needs
 
--- src/tallies.rt:62:9
 counted-requires : tie.Need-counted-requires Inv-loop μ-loop
 counted-requires c κs = omega (arith, c .before .before .before .before .before .before .before .before .pre .words .few-generators, c .before .before .before .before .loop .inv .0 .within, c .before .before .before .before .loop .inv .1)
 
--- src/tallies.rt:63:21
 row-segments-requires : tie.Need-row-segments-requires Inv-loop μ-loop
 row-segments-requires c κs = search needs
 
--- src/tallies.rt:63:9
 add-segments : tie.Need-add-segments Inv-loop μ-loop
-add-segments c = omega (arith, c .before .before .before .before .before .before .before .before .before .before .pre .words .few-generators, c .before .before .before .before .before .before .loop .inv .0 .within, c .before .before .before .before .before .before .loop .inv .2, c .row-segments .ensures .1, c .before .before .generator-of .ensures .points)
+add-segments c =
+    let inv = c .before .before .before .before .before .before .loop .inv in
+    let few = c .before .before .before .before .before .before .before .before .before .before .pre .words .few-generators in
+    omega (arith, few, inv .0 .within, inv .2, c .row-segments .ensures .1, c .before .before .generator-of .ensures .points)
 
--- src/tallies.rt:64:9
 next-generator-requires : tie.Need-next-generator-requires Inv-loop μ-loop
 next-generator-requires c κs = search needs
 
--- src/tallies.rt:60:5
 loop-less : tie.Need-loop-less Inv-loop μ-loop
 loop-less c = search needs
 
--- src/tallies.rt:60:5
 loop-again : tie.Need-loop-again Inv-loop μ-loop
 loop-again c =
     let inv = c .before .before .before .before .before .before .before .loop .inv in
@@ -65,7 +59,6 @@ loop-again c =
       rw (next .1) (segments-turn read (c .before .row-segments .ensures .0) (inv .4)),
     )
 
--- src/tallies.rt:52:1
 returns : tie.Need-returns Inv-loop μ-loop
 returns c =
     let inv = c .before .before .before .loop .inv in

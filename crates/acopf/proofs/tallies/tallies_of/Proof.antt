@@ -1,5 +1,4 @@
 use borrow.Author.Needs.{needs}
-use mathlib.Core.Path.{ap}
 use Rattle.acopf.proofs.Tallied.{tallied-is}
 use Rattle.acopf.proofs.tallies.tallies_of.Statement.{statement}
 use Rattle.acopf.proofs.tallies.tallies_of.Tie as tie

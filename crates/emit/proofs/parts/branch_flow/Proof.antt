@@ -25,11 +25,11 @@ branch-from-requires c κs = search needs
 branch-to-requires : tie.Need-branch-to-requires
 branch-to-requires c κs = search needs
 
-branch-start-requires : tie.Need-branch-start-requires
-branch-start-requires c κs = (c .before .before .before .before .before .before .before .pre .0 .words, c .before .before .before .before .before .before .before .pre .1)
+branch-of-requires : tie.Need-branch-of-requires
+branch-of-requires c κs = (c .before .before .before .before .before .before .before .pre .0, c .before .before .before .before .before .before .before .pre .1)
 
 coefficients-requires : tie.Need-coefficients-requires
-coefficients-requires c κs = omega (arith, c .branch-start .ensures .0, c .before .before .before .before .before .before .before .before .pre .0 .branch-fits (c .before .before .before .before .before .before .before .before .args .b) (c .before .before .before .before .before .before .before .before .pre .1))
+coefficients-requires c κs = search needs
 
 mul-branch-parts : tie.Need-mul-branch-parts
 mul-branch-parts c =
@@ -43,13 +43,16 @@ add-branch-parts c =
 
 branch-parts-requires : tie.Need-branch-parts-requires
 branch-parts-requires c κs =
-    let few = c .before .before .before .before .before .before .before .before .before .before .before .pre .0 .words in
-    let same = parts-as (c .before .before .before .before .before .before .before .before .before .before .before .pre .0) (c .before .before .before .before .before .before .before .before .before .before .before .args .b) (c .before .before .before .branch-start .ensures .0) (c .before .before .before .before .before .branch-from .ensures) (c .before .before .before .before .branch-to .ensures) (c .before .before .coefficients .ensures) in (
+    let pre = c .before .before .before .before .before .before .before .before .before .before .before .pre in
+    let few = pre .0 .words in
+    let from = c .before .before .before .before .before .branch-from .ensures in
+    let to = c .before .before .before .before .branch-to .ensures in
+    let same = parts-as (pre .0) (c .before .before .before .before .before .before .before .before .before .before .before .args .b) (c .before .before .before .branch-of .ensures .is) from to (c .before .before .coefficients .ensures) in (
       few .few-buses,
-      omega (arith, few .few-buses, few .few-branches, c .before .before .before .before .before .before .before .before .before .before .before .pre .1),
-      rw (c .before .before .before .before .before .branch-from .ensures) (omega arith),
-      rw (c .before .before .before .before .branch-to .ensures) (omega arith),
-      rw same at (c .before .before .before .before .before .before .before .before .before .before .before .pre .2),
+      omega (arith, few .few-buses, few .few-branches, pre .1),
+      rw from (omega arith),
+      rw to (omega arith),
+      rw same at (pre .2),
     )
 
 same-length : tie.Need-same-length
@@ -60,7 +63,10 @@ same-length-2 c = search needs
 
 returns : tie.Need-returns
 returns c =
-    let same = parts-as (c .before .before .before .before .before .before .before .before .before .before .before .before .before .before .before .before .pre .0) (c .before .before .before .before .before .before .before .before .before .before .before .before .before .before .before .before .args .b) (c .before .before .before .before .before .before .before .before .branch-start .ensures .0) (c .before .before .before .before .before .before .before .before .before .before .branch-from .ensures) (c .before .before .before .before .before .before .before .before .before .branch-to .ensures) (c .before .before .before .before .before .before .before .coefficients .ensures) in
+    let read = c .before .before .before .before .before .before .before .before .branch-of .ensures .is in
+    let from = c .before .before .before .before .before .before .before .before .before .before .branch-from .ensures in
+    let to = c .before .before .before .before .before .before .before .before .before .branch-to .ensures in
+    let same = parts-as (c .before .before .before .before .before .before .before .before .before .before .before .before .before .before .before .before .pre .0) (c .before .before .before .before .before .before .before .before .before .before .before .before .before .before .before .before .args .b) read from to (c .before .before .before .before .before .before .before .coefficients .ensures) in
     rw same (c .before .before .before .before .branch-parts .ensures)
 
 pub branch-flow-spec : {M : Type 1} → statement M
@@ -72,7 +78,7 @@ branch-flow-spec =
     shared-slice-read-w
     branch-from-requires
     branch-to-requires
-    branch-start-requires
+    branch-of-requires
     coefficients-requires
     mul-branch-parts
     add-branch-parts

@@ -1,7 +1,7 @@
 use native.Mathlib.Omega.{arith}
 use mathlib.Core.Path.{_≡_, sym}
 use Prim.Native.Nat.{_-_, _*_, _≤_}
-use Rattle.factor.specs.NonFinite.{segmentsBefore}
+use Rattle.acopf.specs.Tallies.{segmentsBefore}
 use Rattle.factor.proofs.Steps.{segments-none, segments-turn}
 use borrow.Author.Needs.{needs}
 use Rattle.factor.proofs.count.segment_count.Statement.{statement}

@@ -7,7 +7,7 @@ use borrow.Author.Tests.{not-true, not-false}
 use Rattle.base.specs.Fault.{first}
 use Rattle.base.proofs.Firsts.{Clear, unless-proper}
 use Rattle.base.proofs.Turns.{first-none, first-done, test-more, test-here}
-use Rattle.factor.specs.NonFinite.{nonFinite, coefficientsFault}
+use Rattle.factor.specs.contracts.NonFinite.{nonFinite, coefficientsFault}
 use borrow.Author.Needs.{needs}
 use Rattle.factor.proofs.factor.coefficients_fault.Statement.{statement}
 use Rattle.factor.proofs.factor.coefficients_fault.Tie as tie

@@ -2,7 +2,7 @@ use native.Mathlib.Omega.{arith}
 use Prim.Native.Nat.{_-_, _≤_}
 use Rattle.base.proofs.Firsts.{Clear, or-proper, unless-proper}
 use Rattle.base.proofs.Turns.{first-none, first-step, first-here, first-done}
-use Rattle.factor.specs.NonFinite.{curveFault}
+use Rattle.factor.specs.contracts.NonFinite.{curveFault}
 use borrow.Author.Needs.{needs}
 use Rattle.factor.proofs.factor.curve_fault.Statement.{statement}
 use Rattle.factor.proofs.factor.curve_fault.Tie as tie

@@ -4,28 +4,22 @@ use borrow.Author.Needs.{needs}
 use Rattle.factor.proofs.factor.later_factor.Statement.{statement}
 use Rattle.factor.proofs.factor.later_factor.Tie as tie
 
--- src/factor.rt:177:26
 objective-constant-requires : tie.Need-objective-constant-requires
 objective-constant-requires c κs = search needs
 
--- src/factor.rt:177:9
 is-finite-requires : tie.Need-is-finite-requires
 is-finite-requires c κs = search needs
 
--- src/factor.rt:178:9
 returns : tie.Need-returns
 unfolding unless orElse
 returns c = rw (← c .before .before .objective-constant .ensures, ← c .before .is-finite .ensures, not-true (c .before .is-finite .result) (c .if1 .taken))
 
--- src/factor.rt:183:46
 add-epigraphs-factor : tie.Need-add-epigraphs-factor
 add-epigraphs-factor c = search needs
 
--- src/factor.rt:183:5
 epigraphs-factor-requires : tie.Need-epigraphs-factor-requires
 epigraphs-factor-requires c κs = search needs
 
--- src/factor.rt:172:1
 returns-2 : tie.Need-returns-2
 unfolding unless orElse
 returns-2 c = rw (c .epigraphs-factor .ensures, ← c .before .before .before .objective-constant .ensures, ← c .before .before .is-finite .ensures, not-false (c .before .before .is-finite .result) (c .before .if1 .left))

@@ -25,11 +25,21 @@ add-t8 c = search needs
 
 returns-2 : tie.Need-returns-2
 unfolding unless orElse
-returns-2 c = rw (← c .before .before .before .before .before .slope-of .ensures, ← c .before .before .before .before .is-finite .ensures, not-false (c .before .before .before .before .is-finite .result) (c .before .before .before .if1 .left), ← c .before .before .intercept-of .ensures, ← c .before .is-finite2 .ensures, not-true (c .before .is-finite2 .result) (c .if2 .taken))
+returns-2 c =
+    let finite = c .before .before .before .before .is-finite in
+    let finite2 = c .before .is-finite2 in
+    let first = not-false (finite .result) (c .before .before .before .if1 .left) in
+    let second = not-true (finite2 .result) (c .if2 .taken) in
+    rw (← c .before .before .before .before .before .slope-of .ensures, ← finite .ensures, first, ← c .before .before .intercept-of .ensures, ← finite2 .ensures, second)
 
 returns-3 : tie.Need-returns-3
 unfolding unless orElse
-returns-3 c = rw (← c .before .before .before .before .before .slope-of .ensures, ← c .before .before .before .before .is-finite .ensures, not-false (c .before .before .before .before .is-finite .result) (c .before .before .before .if1 .left), ← c .before .before .intercept-of .ensures, ← c .before .is-finite2 .ensures, not-false (c .before .is-finite2 .result) (c .if2 .left))
+returns-3 c =
+    let finite = c .before .before .before .before .is-finite in
+    let finite2 = c .before .is-finite2 in
+    let first = not-false (finite .result) (c .before .before .before .if1 .left) in
+    let second = not-false (finite2 .result) (c .if2 .left) in
+    rw (← c .before .before .before .before .before .slope-of .ensures, ← finite .ensures, first, ← c .before .before .intercept-of .ensures, ← finite2 .ensures, second)
 
 pub segment-fault-spec : {M : Type 1} → statement M
 segment-fault-spec =

@@ -4,36 +4,41 @@ use borrow.Author.Needs.{needs}
 use Rattle.factor.proofs.first.judge.Statement.{statement}
 use Rattle.factor.proofs.first.judge.Tie as tie
 
--- src/first.rt:22:9
 tables-of-requires : tie.Need-tables-of-requires
 tables-of-requires c κs = search needs
 
--- src/first.rt:24:9
 returns : tie.Need-returns
-returns c = (judged-tables (c .before .before .before .before .before .before .args .words .now) (c .before .before .before .before .before .before .args .numbers .now) (c .before .before .before .tables-of .ensures .fault) (c .if1 .taken), c .if1 .taken)
+returns c =
+    let args = c .before .before .before .before .before .before .args in
+    (judged-tables (args .words .now) (args .numbers .now) (c .before .before .before .tables-of .ensures .fault) (c .if1 .taken), c .if1 .taken)
 
--- src/first.rt:27:9
 tallies-of-requires : tie.Need-tallies-of-requires
 tallies-of-requires c κs = formed-tables (c .before .before .before .before .tables-of .ensures) (c .before .before .before .before .before .shared-slice-known2 .given) (c .before .if1 .left)
 
--- src/first.rt:28:9
 factor-fault-requires : tie.Need-factor-fault-requires
 factor-fault-requires c κs =
-    let right = tables-clear (c .before .before .before .before .before .before .before .before .args .words .now) (c .before .before .before .before .before .before .before .before .args .numbers .now) (c .before .before .before .before .before .tables-of .ensures .fault) (c .before .before .if1 .left) in
-    (formed-tables (c .before .before .before .before .before .tables-of .ensures) (c .before .before .before .before .before .before .shared-slice-known2 .given) (c .before .before .if1 .left), c .tallies-of .ensures, right)
+    let args = c .before .before .before .before .before .before .before .before .args in
+    let tables = c .before .before .before .before .before .tables-of .ensures in
+    let none = c .before .before .if1 .left in (
+      formed-tables tables (c .before .before .before .before .before .before .shared-slice-known2 .given) none,
+      c .tallies-of .ensures,
+      tables-clear (args .words .now) (args .numbers .now) (tables .fault) none,
+    )
 
--- src/first.rt:30:9
 returns-2 : tie.Need-returns-2
 returns-2 c =
-    let right = tables-clear (c .before .before .before .before .before .before .before .before .before .before .before .args .words .now) (c .before .before .before .before .before .before .before .before .before .before .before .args .numbers .now) (c .before .before .before .before .before .before .before .before .tables-of .ensures .fault) (c .before .before .before .before .before .if1 .left) in
-    (judged-factor (c .before .before .before .before .before .before .before .before .before .before .before .args .words .now) (c .before .before .before .before .before .before .before .before .before .before .before .args .numbers .now) right (c .before .before .factor-fault .ensures), c .if2 .taken)
+    let args = c .before .before .before .before .before .before .before .before .before .before .before .args in
+    let right = tables-clear (args .words .now) (args .numbers .now) (c .before .before .before .before .before .before .before .before .tables-of .ensures .fault) (c .before .before .before .before .before .if1 .left) in
+    (judged-factor (args .words .now) (args .numbers .now) right (c .before .before .factor-fault .ensures), c .if2 .taken)
 
--- src/first.rt:19:1
 returns-3 : tie.Need-returns-3
 returns-3 c =
-    let right = tables-clear (c .before .before .before .before .before .before .before .before .before .before .before .args .words .now) (c .before .before .before .before .before .before .before .before .before .before .before .args .numbers .now) (c .before .before .before .before .before .before .before .before .tables-of .ensures .fault) (c .before .before .before .before .before .if1 .left) in (
-      judged-clear (c .before .before .before .before .before .before .before .before .before .before .before .args .words .now) (c .before .before .before .before .before .before .before .before .before .before .before .args .numbers .now) right (c .before .before .factor-fault .ensures) (c .if2 .left),
-      formed-tables (c .before .before .before .before .before .before .before .before .tables-of .ensures) (c .before .before .before .before .before .before .before .before .before .shared-slice-known2 .given) (c .before .before .before .before .before .if1 .left),
+    let args = c .before .before .before .before .before .before .before .before .before .before .before .args in
+    let tables = c .before .before .before .before .before .before .before .before .tables-of .ensures in
+    let none = c .before .before .before .before .before .if1 .left in
+    let right = tables-clear (args .words .now) (args .numbers .now) (tables .fault) none in (
+      judged-clear (args .words .now) (args .numbers .now) right (c .before .before .factor-fault .ensures) (c .if2 .left),
+      formed-tables tables (c .before .before .before .before .before .before .before .before .before .shared-slice-known2 .given) none,
       c .before .before .before .tallies-of .ensures,
     )
 

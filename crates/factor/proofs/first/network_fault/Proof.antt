@@ -4,25 +4,24 @@ use borrow.Author.Needs.{needs}
 use Rattle.factor.proofs.first.network_fault.Statement.{statement}
 use Rattle.factor.proofs.first.network_fault.Tie as tie
 
--- src/first.rt:39:9
 judge-requires : tie.Need-judge-requires
 judge-requires c κs = search needs
 
--- src/first.rt:41:25
 enum-known-judged : tie.Need-enum-known-judged
 enum-known-judged c = search needs
 
--- src/first.rt:42:32
 enum-told : tie.Need-enum-told
 enum-told c = search needs
 
--- src/first.rt:36:1
 returns : tie.Need-returns
-returns c = subst (Judges (c .before .before .before .before .before .before .args .words .now) (c .before .before .before .before .before .before .args .numbers .now)) (c .before .judged .given .1) (c .before .before .before .judge .ensures) .0
+returns c =
+    let args = c .before .before .before .before .before .before .args in
+    subst (Judges (args .words .now) (args .numbers .now)) (c .before .judged .given .1) (c .before .before .before .judge .ensures) .0
 
--- src/first.rt:36:1
 returns-2 : tie.Need-returns-2
-returns-2 c = sym (subst (Judges (c .before .before .before .before .before .args .words .now) (c .before .before .before .before .before .args .numbers .now)) (c .enum-told .given .1) (c .before .before .judge .ensures) .0)
+returns-2 c =
+    let args = c .before .before .before .before .before .args in
+    sym (subst (Judges (args .words .now) (args .numbers .now)) (c .enum-told .given .1) (c .before .before .judge .ensures) .0)
 
 pub network-fault-spec : {M : Type 1} → statement M
 network-fault-spec =
