@@ -1,6 +1,5 @@
 -- The model's pieces as tokens over the numbers that the code holds.
 use Prim.Native.Nat.{ℕ, _+_, _-_, _*_}
-use native.Mathlib.Nat.{add-zero}
 use mathlib.Core.Path.{_≡_}
 use mathlib.Core.Bool.{Bool, cond, not, _&&_}
 use mathlib.Core.List.{List, [], _∷_}
@@ -14,15 +13,11 @@ use Rattle.network.specs.declared.layout.Layout.{Layout}
 use Rattle.network.specs.declared.records.Generator.{Generator}
 use Rattle.network.specs.declared.records.Branch.{Branch}
 use Rattle.network.specs.Layout.{LaidWords, Laid, generatorRecord, branchRecord}
-use Rattle.network.specs.Network.{branchAt, epigraphsBefore}
+use Rattle.network.specs.Network.{epigraphsBefore}
 use Rattle.network.specs.Word.{branchFrom, branchTo, branchAngled, referenceBus}
 use Rattle.acopf.specs.Build.{subtract}
-use Rattle.acopf.specs.contracts.Leaf.{coefficientsAt}
 use Rattle.acopf.specs.Model.{costTerm}
-use Rattle.acopf.specs.Parts.{branchParts}
-use Rattle.acopf.proofs.Leaves.{coefficients-at}
-use Rattle.emit.specs.contracts.Tokens.{partTokens}
-use Rattle.emit.specs.contracts.Parts.{allParts}
+use Rattle.writer.specs.contracts.Tokens.{partTokens}
 use Rattle.emit.specs.contracts.Rows.{referenceTokens, angleTokens, thermalPair, thermalTokens, segmentTokens, curveTokens}
 use Rattle.emit.specs.contracts.Objective.{costOf}
 
@@ -37,12 +32,7 @@ module _ {ws : List ℕ} {l : Layout} (L : LaidWords ws l) where
   angle-is b e d h = rw (e, d, h, L .is)
 
 module _ {ws : List ℕ} {xs : List Float} {l : Layout} (L : Laid ws xs l) where
-  -- ---- a branch's parts and thermal rows
-
-  pub parts-as : {at f t : ℕ} {cs : List Float} (b : ℕ) → at ≡ branchAt ws b → f ≡ branchFrom (getD ws (l .«branch_words» + b) 0)
-      → t ≡ branchTo (getD ws (l .«branch_words» + b) 0) → cs ≡ coefficientsAt xs at → branchParts ws xs b ≡ allParts (l .buses) (l .buses + 8 * b) f t cs
-  unfolding branchParts
-  parts-as b e p q r = rw (r, e, ← coefficients-at ws xs b, p, q, L .words .is, add-zero)
+  -- ---- a branch's thermal rows
 
   pub thermal-is : (b : ℕ) {r : Branch} → r ≡ branchRecord ws xs b
       → partTokens 11 (thermalPair (r .rated) (l .buses + 8 * b) (r .«s_max» ⊗ r .«s_max»)) ≡ thermalTokens ws xs (l .buses) b
