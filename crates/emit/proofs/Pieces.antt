@@ -1,6 +1,5 @@
 -- The model's pieces as tokens over the numbers that the code holds.
 use Prim.Native.Nat.{ℕ, _+_, _-_, _*_}
-use native.Mathlib.Nat.{add-zero}
 use mathlib.Core.Path.{_≡_}
 use mathlib.Core.Bool.{Bool, cond, not, _&&_}
 use mathlib.Core.List.{List, [], _∷_}
@@ -17,11 +16,8 @@ use Rattle.network.specs.Layout.{LaidWords, Laid, generatorRecord, branchRecord
 use Rattle.network.specs.Network.{epigraphsBefore}
 use Rattle.network.specs.Word.{branchFrom, branchTo, branchAngled, referenceBus}
 use Rattle.acopf.specs.Build.{subtract}
-use Rattle.acopf.specs.Flow.{coefficientsOf}
 use Rattle.acopf.specs.Model.{costTerm}
-use Rattle.acopf.specs.Parts.{branchParts}
-use Rattle.emit.specs.contracts.Tokens.{partTokens}
-use Rattle.emit.specs.contracts.Parts.{allParts}
+use Rattle.writer.specs.contracts.Tokens.{partTokens}
 use Rattle.emit.specs.contracts.Rows.{referenceTokens, angleTokens, thermalPair, thermalTokens, segmentTokens, curveTokens}
 use Rattle.emit.specs.contracts.Objective.{costOf}
 
@@ -36,12 +32,7 @@ module _ {ws : List ℕ} {l : Layout} (L : LaidWords ws l) where
   angle-is b e d h = rw (e, d, h, L .is)
 
 module _ {ws : List ℕ} {xs : List Float} {l : Layout} (L : Laid ws xs l) where
-  -- ---- a branch's parts and thermal rows
-
-  pub parts-as : {f t : ℕ} {r : Branch} {cs : List Float} (b : ℕ) → r ≡ branchRecord ws xs b → f ≡ branchFrom (getD ws (l .«branch_words» + b) 0)
-      → t ≡ branchTo (getD ws (l .«branch_words» + b) 0) → cs ≡ coefficientsOf r → branchParts ws xs b ≡ allParts (l .buses) (l .buses + 8 * b) f t cs
-  unfolding branchParts
-  parts-as b e p q r = rw (r, e, p, q, L .words .is, add-zero)
+  -- ---- a branch's thermal rows
 
   pub thermal-is : (b : ℕ) {r : Branch} → r ≡ branchRecord ws xs b
       → partTokens 11 (thermalPair (r .rated) (l .buses + 8 * b) (r .«s_max» ⊗ r .«s_max»)) ≡ thermalTokens ws xs (l .buses) b

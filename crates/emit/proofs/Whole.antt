@@ -30,16 +30,16 @@ use Rattle.acopf.proofs.Counts.{count-terms}
 use Rattle.factor.specs.NonFinite.{segmentsBefore}
 use Rattle.factor.proofs.Sizes.{objectiveWords, count-of-words}
 use Rattle.factor.proofs.Steps.{segments-none, segments-next, epigraphs-le}
-use Rattle.emit.specs.declared.writer.Writer.{Writer}
+use Rattle.writer.specs.declared.writer.Writer.{Writer}
 use Rattle.base.specs.contracts.Section.{Wrote}
-use Rattle.emit.specs.contracts.Tokens.{Token, fixed, numbered, begins, wordsFrom, numbersOf, begun, tokens, listTokens, partTokens, Written, Room}
-use Rattle.emit.specs.contracts.Parts.{sharedTokens}
-use Rattle.emit.specs.contracts.Balance.{balanceOf, balancesOf}
+use Rattle.writer.specs.contracts.Tokens.{Token, fixed, numbered, begins, wordsFrom, numbersOf, begun, tokens, listTokens, partTokens, Written, Room}
+use Rattle.parts.specs.contracts.Parts.{sharedTokens}
+use Rattle.balance.specs.contracts.Balance.{balanceOf, balancesOf}
 use Rattle.emit.specs.contracts.Rows.{angleTokens, thermalTokens, curveTokens}
 use Rattle.emit.specs.contracts.Objective.{sumHead, costCount, objectiveTokens}
 use Rattle.emit.specs.contracts.Whole.{busRows, branchRows, rowTokens}
 use Rattle.base.proofs.Sections.{then}
-use Rattle.emit.proofs.Tokens.{map-append, numbers-append, words-append, length-words, parts-append, parts-each, parts-table, each-through, each-same, each-zero, table-each, list-terms, list-each, part-words-are, part-numbers-are, words-are, numbers-are}
+use Rattle.writer.proofs.Tokens.{map-append, numbers-append, words-append, length-words, parts-append, parts-each, parts-table, each-through, each-same, each-zero, table-each, list-terms, list-each, part-words-are, part-numbers-are, words-are, numbers-are}
 
 shared-are : (ws : List ℕ) (xs : List Float) → partTokens 10 (sharedParts ws xs) ≡ sharedTokens ws xs (buses ws) (branches ws)
 unfolding sharedParts sharedTokens

@@ -1,8 +1,4 @@
 -- What only this crate's own contracts and those of the crates above it cite; a reader of the public contracts needs none of it.
-pub mod Tokens
-pub mod Parts
-pub mod Balance
 pub mod Rows
 pub mod Objective
 pub mod Whole
-pub mod Grouped

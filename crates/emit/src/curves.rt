@@ -1,13 +1,4 @@
 // The rows of curve segments.
-use crate::word::ADD;
-use crate::word::COLUMN;
-use crate::word::CONSTANT;
-use crate::word::MULTIPLY;
-use crate::word::ROW;
-use crate::word::SUBTRACT;
-use crate::word::model_word;
-use crate::writer::Writer;
-use crate::writer::put;
 use acopf::counted;
 use acopf::intercept_of;
 use acopf::slope_of;
@@ -16,11 +7,20 @@ use network::Layout;
 use network::first_generator;
 use network::generator_of;
 use network::next_generator;
+use writer::Writer;
+use writer::model_word;
+use writer::put;
+use writer::word::ADD;
+use writer::word::COLUMN;
+use writer::word::CONSTANT;
+use writer::word::MULTIPLY;
+use writer::word::ROW;
+use writer::word::SUBTRACT;
 ghost use mathlib.Core.List.{[], _∷_};
 ghost use Prim.Native.Nat.{ℕ, _+_, _*_, _<_, _≤_};
 ghost use lib.ListN.{length};
 ghost use Rattle.base.specs.Loop.{each};
-ghost use Rattle.emit.specs.contracts.Tokens.{Written, Room, partTokens};
+ghost use Rattle.writer.specs.contracts.Tokens.{Written, Room, partTokens};
 ghost use Rattle.network.specs.Layout.{Laid};
 ghost use Rattle.emit.specs.contracts.Rows.{segmentOf, segmentTokens, curveTokens};
 

@@ -1,13 +1,13 @@
 // The whole file: shared parts, rows, objective and end.
-use crate::balance::balances;
 use crate::curves::curve_rows;
 use crate::objective::objective_and_end;
-use crate::parts::shared_parts;
 use crate::rows::angle_rows;
 use crate::rows::reference_rows;
 use crate::rows::thermal_rows;
-use crate::writer::Writer;
+use balance::balances;
 use network::Layout;
+use parts::shared_parts;
+use writer::Writer;
 ghost use mathlib.Core.Path.{_≡_};
 ghost use mathlib.Core.List.{_++_};
 ghost use Prim.Native.Nat.{_≤_};
@@ -15,7 +15,7 @@ ghost use lib.ListN.{length, drop};
 ghost use Rattle.tables.specs.Fault.{faultTables};
 ghost use Rattle.acopf.specs.Factor.{constants64};
 ghost use Rattle.acopf.specs.Model.{fileWords};
-ghost use Rattle.emit.specs.contracts.Tokens.{Written, Room};
+ghost use Rattle.writer.specs.contracts.Tokens.{Written, Room};
 ghost use Rattle.network.specs.Layout.{Laid};
 ghost use Rattle.emit.specs.contracts.Whole.{busRows, branchRows, rowTokens};
 

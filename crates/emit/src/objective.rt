@@ -1,19 +1,19 @@
 // The objective: under header 1 a term for each generator, its epigraph column or its quadratic cost, else the constant 0.
-use crate::word::COLUMN;
-use crate::word::CONSTANT;
-use crate::word::END;
-use crate::word::MULTIPLY;
-use crate::word::OBJECTIVE;
-use crate::word::SQUARE;
-use crate::word::SUM;
-use crate::word::model_word;
-use crate::writer::Writer;
-use crate::writer::put;
 use acopf::counted;
 use network::Layout;
 use network::first_generator;
 use network::generator_of;
 use network::next_generator;
+use writer::Writer;
+use writer::model_word;
+use writer::put;
+use writer::word::COLUMN;
+use writer::word::CONSTANT;
+use writer::word::END;
+use writer::word::MULTIPLY;
+use writer::word::OBJECTIVE;
+use writer::word::SQUARE;
+use writer::word::SUM;
 ghost use mathlib.Core.Path.{_≡_};
 ghost use mathlib.Core.Bool.{cond};
 ghost use mathlib.Core.List.{[], _∷_};
@@ -22,7 +22,7 @@ ghost use Rattle.base.specs.Loop.{each};
 ghost use Rattle.base.specs.Word.{word};
 ghost use Rattle.float.specs.Number.{_⊗_, half64};
 ghost use Rattle.nl.specs.Expr.{column};
-ghost use Rattle.emit.specs.contracts.Tokens.{fixed, Written, Room, listTokens};
+ghost use Rattle.writer.specs.contracts.Tokens.{fixed, Written, Room, listTokens};
 ghost use Rattle.network.specs.Layout.{Laid};
 ghost use Rattle.emit.specs.contracts.Objective.{costOf, costTokens, sumHead, costCount, objectiveTokens};
 

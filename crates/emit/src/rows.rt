@@ -1,27 +1,27 @@
 // The rows of references, active angle differences and thermal limits.
-use crate::word::ADD;
-use crate::word::COLUMN;
-use crate::word::CONSTANT;
-use crate::word::ROW;
-use crate::word::SHARED;
-use crate::word::SQUARE;
-use crate::word::SUBTRACT;
-use crate::word::model_word;
-use crate::writer::Writer;
-use crate::writer::put;
 use network::Layout;
 use network::branch_angled;
 use network::branch_from;
 use network::branch_of;
 use network::branch_to;
 use network::reference_bus;
+use writer::Writer;
+use writer::model_word;
+use writer::put;
+use writer::word::ADD;
+use writer::word::COLUMN;
+use writer::word::CONSTANT;
+use writer::word::ROW;
+use writer::word::SHARED;
+use writer::word::SQUARE;
+use writer::word::SUBTRACT;
 ghost use mathlib.Core.List.{[], _∷_};
 ghost use Prim.Native.Nat.{_+_, _*_, _<_};
 ghost use Rattle.base.specs.Loop.{each, keep};
 ghost use Rattle.nl.specs.Expr.{column};
 ghost use Rattle.network.specs.Layout.{LaidWords, Laid};
 ghost use Rattle.acopf.specs.Build.{subtract};
-ghost use Rattle.emit.specs.contracts.Tokens.{Written, Room, partTokens};
+ghost use Rattle.writer.specs.contracts.Tokens.{Written, Room, partTokens};
 ghost use Rattle.emit.specs.contracts.Rows.{referenceTokens, angleTokens, thermalOf, thermalPair, thermalTokens};
 
 fn reference_row(va: usize, file: &mut [u32], constants: &mut [f64], writer: Writer) -> Writer

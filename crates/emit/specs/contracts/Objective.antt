@@ -10,7 +10,7 @@ use Rattle.float.specs.Number.{zero64}
 use Rattle.nl.specs.Expr.{Expr, column}
 use Rattle.acopf.specs.Build.{square, scaled, sum}
 use Rattle.acopf.specs.Model.{costTerm}
-use Rattle.emit.specs.contracts.Tokens.{Token, fixed, numbered, listTokens}
+use Rattle.writer.specs.contracts.Tokens.{Token, fixed, numbered, listTokens}
 
 -- a quadratic cost of the column c: half the square's factor, and the linear one
 abbrev pub costOf : ℕ → Float → Float → Expr

@@ -9,7 +9,7 @@ use Rattle.nl.specs.Expr.{Expr, column, shared}
 use Rattle.network.specs.Network.{from, to, angled, referred, rated, sMax, curved, segments, curveAt, epigraphColumn, pgColumn}
 use Rattle.acopf.specs.Build.{literal, add, subtract, square, scaled}
 use Rattle.acopf.specs.Curve.{slope, intercept}
-use Rattle.emit.specs.contracts.Tokens.{Token, partTokens}
+use Rattle.writer.specs.contracts.Tokens.{Token, partTokens}
 
 abbrev pub referenceTokens : List ℕ → ℕ → List Token
 referenceTokens ws r = partTokens 11 (column (referred ws r) ∷ [])

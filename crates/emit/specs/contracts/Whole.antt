@@ -4,8 +4,8 @@ use mathlib.Core.List.{List, _++_}
 use lib.Ieee.{Float}
 use Rattle.base.specs.Loop.{each}
 use Rattle.network.specs.declared.layout.Layout.{Layout}
-use Rattle.emit.specs.contracts.Tokens.{Token}
-use Rattle.emit.specs.contracts.Balance.{balancesOf}
+use Rattle.writer.specs.contracts.Tokens.{Token}
+use Rattle.balance.specs.contracts.Balance.{balancesOf}
 use Rattle.emit.specs.contracts.Rows.{referenceTokens, angleTokens, thermalTokens, curveTokens}
 use Rattle.emit.specs.contracts.Objective.{costCount, objectiveTokens}
 

@@ -7,9 +7,9 @@ use lib.Ieee.{Float}
 use borrow.Author.Needs.{needs}
 use Rattle.base.specs.Loop.{each}
 use Rattle.acopf.specs.Curve.{slope, intercept}
-use Rattle.emit.specs.contracts.Tokens.{Written, partTokens}
+use Rattle.writer.specs.contracts.Tokens.{Written, partTokens}
 use Rattle.emit.specs.contracts.Rows.{segmentOf, segmentTokens}
-use Rattle.emit.proofs.Tokens.{turns-none, turns-step, turns-room}
+use Rattle.writer.proofs.Tokens.{turns-none, turns-step, turns-room}
 use Rattle.emit.proofs.curves.segment_rows.Statement.{statement}
 use Rattle.emit.proofs.curves.segment_rows.Tie as tie
 

@@ -1,9 +1,8 @@
 use native.Mathlib.Omega.{arith}
-use borrow.Author.Needs.{needs}
 use mathlib.Core.List.{_++_}
 use Rattle.emit.specs.contracts.Objective.{costCount, objectiveTokens}
 use Rattle.emit.specs.contracts.Whole.{busRows, branchRows, rowTokens}
-use Rattle.emit.proofs.Tokens.{written-then, room-first, room-then}
+use Rattle.writer.proofs.Tokens.{written-then, room-first, room-then}
 use Rattle.emit.proofs.model.after_parts.Statement.{statement}
 use Rattle.emit.proofs.model.after_parts.Tie as tie
 

@@ -1,10 +1,9 @@
 use native.Mathlib.Omega.{arith}
-use borrow.Author.Needs.{needs}
 use mathlib.Core.List.{_++_}
 use Rattle.base.specs.Loop.{each}
 use Rattle.emit.specs.contracts.Rows.{angleTokens, thermalTokens, curveTokens}
 use Rattle.emit.specs.contracts.Whole.{branchRows}
-use Rattle.emit.proofs.Tokens.{written-then, room-first, room-then}
+use Rattle.writer.proofs.Tokens.{written-then, room-first, room-then}
 use Rattle.emit.proofs.model.branch_rows.Statement.{statement}
 use Rattle.emit.proofs.model.branch_rows.Tie as tie
 

@@ -1,10 +1,9 @@
 use native.Mathlib.Omega.{arith}
-use borrow.Author.Needs.{needs}
 use Rattle.base.specs.Loop.{each}
-use Rattle.emit.specs.contracts.Balance.{balancesOf}
+use Rattle.balance.specs.contracts.Balance.{balancesOf}
 use Rattle.emit.specs.contracts.Rows.{referenceTokens}
 use Rattle.emit.specs.contracts.Whole.{busRows}
-use Rattle.emit.proofs.Tokens.{written-then, room-first, room-then}
+use Rattle.writer.proofs.Tokens.{written-then, room-first, room-then}
 use Rattle.emit.proofs.model.bus_rows.Statement.{statement}
 use Rattle.emit.proofs.model.bus_rows.Tie as tie
 

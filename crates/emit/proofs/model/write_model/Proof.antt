@@ -1,7 +1,6 @@
 use native.Mathlib.Omega.{arith}
-use borrow.Author.Needs.{needs}
 use Rattle.base.proofs.Sections.{wrote-front}
-use Rattle.emit.specs.contracts.Parts.{sharedTokens}
+use Rattle.parts.specs.contracts.Parts.{sharedTokens}
 use Rattle.emit.specs.contracts.Whole.{rowTokens}
 use Rattle.emit.proofs.Whole.{room-shared, room-rows, both-words, both-numbers, words-at, numbers-at, few-words}
 use Rattle.emit.proofs.model.write_model.Statement.{statement}

@@ -1,4 +1,3 @@
-use native.Mathlib.Omega.{arith}
 use borrow.Author.Needs.{needs}
 use Rattle.emit.proofs.objective.cost_term.Statement.{statement}
 use Rattle.emit.proofs.objective.cost_term.Tie as tie

@@ -4,9 +4,9 @@ use Prim.Native.Nat.{ℕ}
 use mathlib.Core.List.{List, [], _∷_, _++_}
 use Rattle.base.specs.Loop.{each}
 use Rattle.base.specs.Word.{word}
-use Rattle.emit.specs.contracts.Tokens.{Token, fixed}
+use Rattle.writer.specs.contracts.Tokens.{Token, fixed}
 use Rattle.emit.specs.contracts.Objective.{costTokens, sumHead, objectiveTokens}
-use Rattle.emit.proofs.Tokens.{written-then, room-first, room-then}
+use Rattle.writer.proofs.Tokens.{written-then, room-first, room-then}
 use Rattle.emit.proofs.objective.objective_and_end.Statement.{statement}
 use Rattle.emit.proofs.objective.objective_and_end.Tie as tie
 

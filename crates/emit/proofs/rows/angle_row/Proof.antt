@@ -1,6 +1,6 @@
 use native.Mathlib.Omega.{arith}
 use borrow.Author.Needs.{needs}
-use Rattle.emit.proofs.Tokens.{written-none}
+use Rattle.writer.proofs.Tokens.{written-none}
 use Rattle.emit.proofs.rows.angle_row.Statement.{statement}
 use Rattle.emit.proofs.rows.angle_row.Tie as tie
 

@@ -4,8 +4,8 @@ use Prim.Native.Nat.{_-_, _≤_}
 use mathlib.Core.Path.{_≡_}
 use lib.ListN.{length}
 use Rattle.base.specs.Loop.{each}
-use Rattle.emit.specs.contracts.Tokens.{Written}
-use Rattle.emit.proofs.Tokens.{turns-none, turns-step, turns-room}
+use Rattle.writer.specs.contracts.Tokens.{Written}
+use Rattle.writer.proofs.Tokens.{turns-none, turns-step, turns-room}
 use Rattle.emit.specs.contracts.Rows.{referenceTokens}
 use Rattle.emit.proofs.Pieces.{reference-is}
 use Rattle.emit.proofs.rows.reference_rows.Statement.{statement}

@@ -3,9 +3,9 @@ use native.Mathlib.Omega.{arith}
 use mathlib.Core.List.{List, [], _∷_}
 use lib.Ieee.{Float}
 use borrow.Author.Needs.{needs}
-use Rattle.emit.specs.contracts.Tokens.{Token, partTokens}
+use Rattle.writer.specs.contracts.Tokens.{Token, partTokens}
 use Rattle.emit.specs.contracts.Rows.{thermalOf}
-use Rattle.emit.proofs.Tokens.{written-none, written-then, room-first, room-then}
+use Rattle.writer.proofs.Tokens.{written-none, written-then, room-first, room-then}
 use Rattle.emit.proofs.rows.thermal_pair.Statement.{statement}
 use Rattle.emit.proofs.rows.thermal_pair.Tie as tie
 

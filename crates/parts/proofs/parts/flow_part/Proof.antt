@@ -1,0 +1,83 @@
+use Prim.Native.Nat.{_+_}
+use native.Mathlib.Omega.{arith}
+use mathlib.Core.Path.{_≡_}
+use borrow.Author.Needs.{needs}
+use Rattle.parts.proofs.parts.flow_part.Statement.{statement}
+use Rattle.parts.proofs.parts.flow_part.Tie as tie
+
+model-word-requires : tie.Need-model-word-requires
+model-word-requires c κs = search needs
+
+model-word-requires-2 : tie.Need-model-word-requires-2
+model-word-requires-2 c κs = search needs
+
+model-word-requires-3 : tie.Need-model-word-requires-3
+model-word-requires-3 c κs = search needs
+
+model-word-requires-4 : tie.Need-model-word-requires-4
+model-word-requires-4 c κs = search needs
+
+add-model-word : tie.Need-add-model-word
+add-model-word c = search needs
+
+model-word-requires-5 : tie.Need-model-word-requires-5
+model-word-requires-5 c κs = search needs
+
+add-model-word-2 : tie.Need-add-model-word-2
+add-model-word-2 c = search needs
+
+model-word-requires-6 : tie.Need-model-word-requires-6
+model-word-requires-6 c κs = search needs
+
+add-model-word-3 : tie.Need-add-model-word-3
+add-model-word-3 c = search needs
+
+model-word-requires-7 : tie.Need-model-word-requires-7
+model-word-requires-7 c κs = search needs
+
+add-model-word-4 : tie.Need-add-model-word-4
+add-model-word-4 c = search needs
+
+model-word-requires-8 : tie.Need-model-word-requires-8
+model-word-requires-8 c κs = search needs
+
+slice-aggregate-put : tie.Need-slice-aggregate-put
+slice-aggregate-put c = search needs
+
+slice-aggregate-put-2 : tie.Need-slice-aggregate-put-2
+slice-aggregate-put-2 c = search needs
+
+put-requires : tie.Need-put-requires
+put-requires c κs = let room = c .before .before .before .before .before .before .before .before .before .before .before .before .before .before .pre .2 in (room .words, room .numbers, room .parts)
+
+same-length : tie.Need-same-length
+same-length c = search needs
+
+same-length-2 : tie.Need-same-length-2
+same-length-2 c = search needs
+
+returns : tie.Need-returns
+returns c = let e : c .before .before .before .before .before .before .before .before .before .before .before .before .before .before .before .before .before .before .before .args .writer .constant + 2 ≡ c .before .before .before .before .before .before .before .before .before .before .before .before .before .before .before .before .before .before .before .args .writer .constant + 1 + 1 = omega arith in let k = c .before .before .before .before .put .ensures in record { words = rw (c .before .before .before .before .before .before .before .before .before .before .before .before .before .before .model-word .ensures, c .before .before .before .before .before .before .before .before .before .before .before .before .before .model-word2 .ensures, c .before .before .before .before .before .before .before .before .before .before .before .before .model-word3 .ensures, c .before .before .before .before .before .before .before .before .before .before .before .model-word4 .ensures, c .before .before .before .before .before .before .before .before .before .before .model-word5 .ensures, c .before .before .before .before .before .before .before .before .before .model-word6 .ensures, c .before .before .before .before .before .before .before .before .model-word7 .ensures, c .before .before .before .before .before .before .before .model-word8 .ensures, e) at (k .words); numbers = k .numbers; parts = k .parts }
+
+pub flow-part-spec : {M : Type 1} → statement M
+flow-part-spec =
+    tie.close
+    (tie.spec
+    model-word-requires
+    model-word-requires-2
+    model-word-requires-3
+    model-word-requires-4
+    add-model-word
+    model-word-requires-5
+    add-model-word-2
+    model-word-requires-6
+    add-model-word-3
+    model-word-requires-7
+    add-model-word-4
+    model-word-requires-8
+    slice-aggregate-put
+    slice-aggregate-put-2
+    put-requires
+    same-length
+    same-length-2
+    returns)
