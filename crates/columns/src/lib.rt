@@ -1,10 +1,8 @@
 // Compile's three column lists: lower, upper, start. Each is written section by section: va, vm, pg, qg, epigraphs.
-mod values;
 mod lists;
 mod sections;
+mod values;
 
-pub use values::vm_lower;
-pub use values::vm_upper;
 pub use lists::write_column_lower;
 pub use lists::write_column_start;
 pub use lists::write_column_upper;
