@@ -1,15 +1,36 @@
-// A generator's bounds and start in the model's columns, and the start of its epigraph column.
+// The bounds of vm, a generator's bounds and start in the model's columns, and the start of its epigraph column.
 use crate::curve::curve_value;
 use bounds::clamp_start;
+use network::Bus;
 use network::Generator;
 ghost use mathlib.Core.Path.{_≡_};
 ghost use mathlib.Core.Bool.{cond};
 ghost use Prim.Native.Nat.{_+_, _-_, _*_, _≤_};
 ghost use lib.Ieee.{neg};
 ghost use lib.ListN.{length};
+ghost use Rattle.float.specs.Number.{zero64};
 ghost use Rattle.bounds.specs.Bounds.{huge64, clampStart};
 ghost use Rattle.network.specs.Limits.{pointNumbers, mostPoints};
 ghost use Rattle.acopf.specs.Curve.{evaluate};
+
+// The bounds of the bus's vm where they are active, else 0 and 1e19.
+pub fn vm_lower(bus: Bus) -> f64
+    ensures { λ r. ⌜ r ≡ cond (bus .bounded) (bus .«vm_min») zero64 ⌝ }
+{
+    if bus.bounded {
+        return bus.vm_min;
+    }
+    0.0
+}
+
+pub fn vm_upper(bus: Bus) -> f64
+    ensures { λ r. ⌜ r ≡ cond (bus .bounded) (bus .«vm_max») huge64 ⌝ }
+{
+    if bus.bounded {
+        return bus.vm_max;
+    }
+    1e19
+}
 
 // The table's bound where it is active, else 1e19 down or up.
 pub fn lower_bound(active: bool, given: f64) -> f64

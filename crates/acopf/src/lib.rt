@@ -11,6 +11,8 @@ pub use columns::epigraph_start;
 pub use columns::generator_start;
 pub use columns::lower_bound;
 pub use columns::upper_bound;
+pub use columns::vm_lower;
+pub use columns::vm_upper;
 pub use complex::polar;
 pub use curve::curve_value;
 pub use curve::intercept_of;

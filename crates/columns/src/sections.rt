@@ -2,103 +2,125 @@
 use crate::ColumnList;
 use crate::values::column_value;
 use crate::values::generator_value;
-use crate::values::vm_lower;
-use crate::values::vm_upper;
+use acopf::vm_lower;
+use acopf::vm_upper;
+use network::Layout;
+use network::bus_of;
+use network::first_generator;
+use network::generator_of;
+use network::next_generator;
 ghost use mathlib.Core.Path.{_≡_};
 ghost use Prim.Native.Nat.{_+_, _*_, _≤_};
 ghost use lib.ListN.{length};
-ghost use Rattle.base.specs.Loop.{table, each};
-ghost use Rattle.tables.specs.Fault.{faultTables};
-ghost use Rattle.network.specs.Network.{buses, generators, costs, epigraphsBefore};
 ghost use Rattle.base.specs.contracts.Section.{Wrote};
-ghost use Rattle.columns.specs.contracts.Value.{vaValue, vmValue, generatorValue, epigraphValue};
+ghost use Rattle.network.specs.Layout.{Laid};
+ghost use Rattle.network.specs.Network.{epigraphsBefore};
+ghost use Rattle.columns.specs.contracts.Value.{vaStarts, vmColumns, generatorColumns, boundedColumns, epigraphStarts};
 
 // A start of va is not clamped.
-pub(crate) fn va_starts(numbers: &[f64], n: usize, out: &mut [f64], to: usize) -> usize
-    requires { ⌜ (8 * n ≤ length (now numbers)) × (to + n ≤ length (now out)) ⌝ }
-    ensures { λ r. ⌜ (Wrote (now (out .entry)) to (table n (vaValue (now (numbers .entry)))) (now (out .exit)) r) × (r ≡ to + n) ⌝ }
-{
-    let mut i = 0usize;
-    while i < n {
-        out[to + i] = bounds::finite_or(numbers[8 * i + 6], 0.0);
-        i += 1;
-    }
-    to + n
-}
-
-pub(crate) fn vm_section(
+pub(crate) fn va_starts(
     words: &[u32],
     numbers: &[f64],
-    n: usize,
+    layout: Layout,
+    out: &mut [f64],
+    to: usize,
+) -> usize
+    requires { ⌜ (Laid (now words) (now numbers) layout) × (to + layout .buses ≤ length (now out)) ⌝ }
+    ensures { λ r. ⌜ (let section = vaStarts (now (words .entry)) (now (numbers .entry)) (layout .buses) in
+        Wrote (now (out .entry)) to section (now (out .exit)) r × (r ≡ to + layout .buses)) ⌝ }
+{
+    let mut i = 0usize;
+    while i < layout.buses {
+        let bus = bus_of(words, numbers, layout, i);
+        out[to + i] = bounds::finite_or(bus.va, 0.0);
+        i += 1;
+    }
+    to + layout.buses
+}
+
+fn vm_section(
+    words: &[u32],
+    numbers: &[f64],
+    layout: Layout,
     list: ColumnList,
     out: &mut [f64],
     to: usize,
 ) -> usize
-    requires { ⌜ (1 + n ≤ length (now words)) × (8 * n ≤ length (now numbers)) × (to + n ≤ length (now out)) ⌝ }
-    ensures { λ r. ⌜ (Wrote (now (out .entry)) to (table n (vmValue (now (words .entry)) (now (numbers .entry)) list)) (now (out .exit)) r) × (r ≡ to + n) ⌝ }
+    requires { ⌜ (Laid (now words) (now numbers) layout) × (to + layout .buses ≤ length (now out)) ⌝ }
+    ensures { λ r. ⌜ (let section = vmColumns (now (words .entry)) (now (numbers .entry)) list (layout .buses) in
+        Wrote (now (out .entry)) to section (now (out .exit)) r × (r ≡ to + layout .buses)) ⌝ }
 {
     let mut i = 0usize;
-    while i < n {
-        let lower = vm_lower(words, numbers, i);
-        let upper = vm_upper(words, numbers, i);
-        out[to + i] = column_value(list, numbers[8 * i + 7], lower, upper);
+    while i < layout.buses {
+        let bus = bus_of(words, numbers, layout, i);
+        let lower = vm_lower(bus);
+        let upper = vm_upper(bus);
+        out[to + i] = column_value(list, bus.vm, lower, upper);
         i += 1;
     }
-    to + n
+    to + layout.buses
 }
 
-// pg with part 0, qg with part 1.
-pub(crate) fn generator_section(
+// pg where active, else qg.
+fn generator_section(
     words: &[u32],
     numbers: &[f64],
-    n: usize,
-    k: usize,
+    layout: Layout,
     list: ColumnList,
-    part: usize,
+    active: bool,
     out: &mut [f64],
     to: usize,
 ) -> usize
-    requires { ⌜ (n ≡ buses (now words)) × (k ≡ generators (now words)) × (faultTables (now words) (now numbers) .number ≡ 0)
-        × (part ≤ 1) × (to + k ≤ length (now out)) ⌝ }
-    ensures { λ r. ⌜ (Wrote (now (out .entry)) to (table k (generatorValue (now (words .entry)) (now (numbers .entry)) list part)) (now (out .exit)) r) × (r ≡ to + k) ⌝ }
+    requires { ⌜ (Laid (now words) (now numbers) layout) × (to + layout .generators ≤ length (now out)) ⌝ }
+    ensures { λ r. ⌜ (let section = generatorColumns (now (words .entry)) (now (numbers .entry)) list active (layout .generators) in
+        Wrote (now (out .entry)) to section (now (out .exit)) r × (r ≡ to + layout .generators)) ⌝ }
 {
-    let mut at = 8 * n;
-    let mut g = 0usize;
-    while g < k {
-        let w = words[1 + n + g];
-        let active = network::generator_bounded(w);
-        out[to + g] = generator_value(numbers, at, active, list, part);
-        at += 9 + 2 * network::generator_points(w);
-        g += 1;
+    let mut cursor = first_generator(words, layout);
+    while cursor.index < layout.generators {
+        let generator = generator_of(words, numbers, layout, cursor);
+        out[to + cursor.index] = generator_value(list, active, generator);
+        cursor = next_generator(words, layout, cursor);
     }
-    to + k
+    to + layout.generators
+}
+
+// The columns that the table can bound: vm, pg, qg.
+pub(crate) fn bounded_sections(
+    words: &[u32],
+    numbers: &[f64],
+    layout: Layout,
+    list: ColumnList,
+    out: &mut [f64],
+    to: usize,
+) -> usize
+    requires { ⌜ (Laid (now words) (now numbers) layout) × (to + layout .buses + 2 * layout .generators ≤ length (now out)) ⌝ }
+    ensures { λ r. ⌜ (let section = boundedColumns (now (words .entry)) (now (numbers .entry)) list (layout .buses) (layout .generators) in
+        Wrote (now (out .entry)) to section (now (out .exit)) r × (r ≡ to + layout .buses + 2 * layout .generators)) ⌝ }
+{
+    let pg = vm_section(words, numbers, layout, list, out, to);
+    let qg = generator_section(words, numbers, layout, list, true, out, pg);
+    generator_section(words, numbers, layout, list, false, out, qg)
 }
 
 pub(crate) fn epigraph_starts(
     words: &[u32],
     numbers: &[f64],
-    n: usize,
-    k: usize,
-    priced: bool,
+    layout: Layout,
     out: &mut [f64],
     to: usize,
 ) -> usize
-    requires { ⌜ (n ≡ buses (now words)) × (k ≡ generators (now words)) × (priced ≡ costs (now words)) × (faultTables (now words) (now numbers) .number ≡ 0)
-        × (to + epigraphsBefore (now words) k ≤ length (now out)) ⌝ }
-    ensures { λ r. ⌜ Wrote (now (out .entry)) to (each k (epigraphValue (now (words .entry)) (now (numbers .entry)))) (now (out .exit)) r ⌝ }
+    requires { ⌜ (Laid (now words) (now numbers) layout)
+        × (to + epigraphsBefore (now words) (layout .generators) ≤ length (now out)) ⌝ }
+    ensures { λ r. ⌜ (let section = epigraphStarts (now (words .entry)) (now (numbers .entry)) (layout .generators) in
+        Wrote (now (out .entry)) to section (now (out .exit)) r) ⌝ }
 {
     let mut next = to;
-    let mut at = 8 * n;
-    let mut g = 0usize;
-    while g < k {
-        let w = words[1 + n + g];
-        let points = network::generator_points(w);
-        let curved = factor::is_curved(priced, points);
-        let bounded = network::generator_bounded(w);
-        let start = factor::epigraph_start(numbers, at, points, bounded);
-        next = base::put_if(out, next, curved, start);
-        at += 9 + 2 * points;
-        g += 1;
+    let mut cursor = first_generator(words, layout);
+    while cursor.index < layout.generators {
+        let generator = generator_of(words, numbers, layout, cursor);
+        let start = acopf::epigraph_start(numbers, generator);
+        next = base::put_if(out, next, generator.curved, start);
+        cursor = next_generator(words, layout, cursor);
     }
     next
 }

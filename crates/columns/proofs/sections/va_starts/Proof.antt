@@ -1,35 +1,27 @@
-use mathlib.Core.Path.{_≡_, refl}
+use mathlib.Core.Path.{_≡_, refl, ap, _∙_}
 use Prim.Native.Nat.{_+_, _-_, _≤_}
 use native.Mathlib.Omega.{arith}
 use lib.ListN.{length}
-use Rattle.base.specs.Loop.{table}
 use Rattle.base.specs.contracts.Section.{Wrote}
 use Rattle.base.proofs.Sections.{table-none, table-next}
-use Rattle.columns.specs.contracts.Value.{vaValue}
+use Rattle.network.specs.Layout.{busRecord}
+use Rattle.columns.specs.contracts.Value.{vaValue, vaStarts}
 use borrow.Author.Needs.{needs}
 use Rattle.columns.proofs.sections.va_starts.Statement.{statement}
 use Rattle.columns.proofs.sections.va_starts.Tie as tie
 
 abbrev Inv-loop : tie.InvT-loop
-Inv-loop numbers n out₀ to i₀ out i = (i ≤ n) × (length out ≡ length out₀) × Wrote out₀ to (table i (vaValue numbers)) out (to + i)
+Inv-loop words numbers layout out₀ to i₀ out i =
+    (i ≤ layout .buses) × (length out ≡ length out₀) × Wrote out₀ to (vaStarts words numbers i) out (to + i)
 
 abbrev μ-loop : tie.MeasureT-loop
-μ-loop numbers n out₀ to i₀ out i = n - i
+μ-loop words numbers layout out₀ to i₀ out i = layout .buses - i
 
 loop-holds : tie.Need-loop-holds Inv-loop μ-loop
 loop-holds c = (omega arith, refl, table-none _)
 
-mul-finite-or : tie.Need-mul-finite-or Inv-loop μ-loop
-mul-finite-or c = search needs
-
-add-finite-or : tie.Need-add-finite-or Inv-loop μ-loop
-add-finite-or c = search needs
-
-mul-finite-or-2 : tie.Need-mul-finite-or-2 Inv-loop μ-loop
-mul-finite-or-2 c = search needs
-
-shared-slice-read-finite-or : tie.Need-shared-slice-read-finite-or Inv-loop μ-loop
-shared-slice-read-finite-or c = search needs
+bus-of-requires : tie.Need-bus-of-requires Inv-loop μ-loop
+bus-of-requires c κs = search needs
 
 finite-or-requires : tie.Need-finite-or-requires Inv-loop μ-loop
 finite-or-requires c κs = search needs
@@ -50,7 +42,11 @@ loop-less : tie.Need-loop-less Inv-loop μ-loop
 loop-less c = search needs
 
 loop-again : tie.Need-loop-again Inv-loop μ-loop
-loop-again c = (omega arith, search needs, table-next (vaValue (c .before .before .before .before .before .before .args .numbers .now)) _ (c .finite-or .ensures) (c .before .before .before .loop .inv .2))
+loop-again c =
+    let args = c .before .before .before .before .before .before .before .before .args in
+    let loop = c .before .before .before .before .loop in
+    let value = c .finite-or .ensures ∙ ap vaValue (c .before .bus-of .ensures) in
+    (omega arith, search needs, table-next (λ j. vaValue (busRecord (args .words .now) (args .numbers .now) j)) _ value (loop .inv .2))
 
 add-result : tie.Need-add-result Inv-loop μ-loop
 add-result c = search needs
@@ -59,7 +55,10 @@ same-length : tie.Need-same-length Inv-loop μ-loop
 same-length c = search needs
 
 returns : tie.Need-returns Inv-loop μ-loop
-returns c = let l = c .before .loop in let e : l .i ≡ c .before .before .before .before .args .n = omega arith in (rw e at (l .inv .2), refl)
+returns c =
+    let loop = c .before .before .before .loop in
+    let e : loop .i ≡ c .before .before .before .before .before .before .before .args .layout .buses = omega (arith, loop .inv .0, c .before .if1 .left) in
+    (rw e at (loop .inv .2), refl)
 
 pub va-starts-spec : {M : Type 1} → statement M
 va-starts-spec =
@@ -68,10 +67,7 @@ va-starts-spec =
     Inv-loop
     μ-loop
     loop-holds
-    mul-finite-or
-    add-finite-or
-    mul-finite-or-2
-    shared-slice-read-finite-or
+    bus-of-requires
     finite-or-requires
     add-out
     mul-out
