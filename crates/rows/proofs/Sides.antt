@@ -1,20 +1,27 @@
 -- Row lower and row upper, section by section.
-use Prim.Native.Nat.{ℕ, zero, suc, _+_, _*_}
+use Prim.Native.Nat.{ℕ, zero, suc, _+_, _*_, _≤_}
 use native.Mathlib.Omega.{arith}
-use mathlib.Core.Path.{_≡_, refl, ap, ap₂, _∙_}
-use mathlib.Core.Bool.{Bool, true, false}
+use mathlib.Core.Path.{_≡_, refl, sym, ap, ap₂, _∙_}
+use mathlib.Core.Bool.{Bool, true, false, cond}
 use mathlib.Core.List.{List, [], _∷_, _++_, map, map-append, append-assoc}
-use lib.ListN.{length, length-append, length-replicate, replicate}
+use lib.ListN.{length, length-append, replicate}
 use lib.Ieee.{Float}
 use Rattle.base.specs.Loop.{loop, table, each, keep, tally}
-use Rattle.base.proofs.Loops.{Every, AllFrom, every-append, every-table, every-each, every-keep, every-cond, length-table, length-kept}
+use Rattle.base.proofs.Loops.{Every, AllFrom, every-append, every-table, every-each, every-keep, every-cond, length-table, length-keep, tally-bit}
 use Rattle.float.specs.Number.{zero64}
 use Rattle.bounds.specs.Bounds.{huge64}
-use Rattle.network.specs.Network.{buses, generators, branches, references, angled, branchAt, curved, segments, number}
-use Rattle.acopf.specs.Rows.{Row, balanceRow, pBalance, qBalance, referenceRow, angleRow, rated, thermalRows, segmentRow, segmentRows, rows, rowLower, rowUpper}
-use Rattle.factor.specs.NonFinite.{segmentsBefore}
-use Rattle.factor.proofs.Sizes.{ratings, count-rows}
-use Rattle.rows.specs.contracts.Bounds.{angleBounds, rowBounds}
+use Rattle.network.specs.declared.layout.Layout.{Layout}
+use Rattle.network.specs.Layout.{Laid, branchRecord}
+use Rattle.network.specs.Network.{buses, generators, branches, references, angled, curved, segments}
+use Rattle.acopf.specs.declared.tallies.Tallies.{Tallies}
+use Rattle.acopf.specs.Parts.{pFrom, qFrom, pTo, qTo}
+use Rattle.acopf.specs.Rows.{Row, balanceRow, pBalance, qBalance, referenceRow, angleRow, rated, thermalRow, thermalRows, segmentRow, segmentRows, rows, rowLower, rowUpper}
+use Rattle.acopf.specs.Tallies.{segmentsBefore, Tallied}
+use Rattle.acopf.proofs.Counts.{lower-rows, upper-rows}
+use Rattle.acopf.proofs.Tallied.{tally-none}
+use Rattle.rows.specs.contracts.Bounds.{angleBound, angleBounds, rowBounds}
+use Rattle.rows.specs.declared.Side.{Side}
+use Rattle.rows.specs.declared.Side.the-variants.{Lower, Upper}
 
 -- ---- mapped lists
 
@@ -27,7 +34,8 @@ module _ {A : Type 0} {B : Type 0} (f : A → B) where
   map-kept : (n : ℕ) (t : ℕ → Bool) (g : ℕ → A) → map f (each n (λ j. keep (t j) (g j))) ≡ each n (λ j. keep (t j) (f (g j)))
   unfolding loop each
   map-kept zero t g = refl
-  map-kept (suc n) t g = map-append f (each n (λ j. keep (t j) (g j))) (keep (t n) (g n)) ∙ ap₂ (λ x y. x ++ y) (map-kept n t g) (one (t n))
+  map-kept (suc n) t g =
+      map-append f (each n (λ j. keep (t j) (g j))) (keep (t n) (g n)) ∙ ap₂ (λ x y. x ++ y) (map-kept n t g) (one (t n))
     where
       one : (b : Bool) → map f (keep b (g n)) ≡ keep b (f (g n))
       one true = refl
@@ -63,106 +71,127 @@ module _ (ws : List ℕ) (xs : List Float) where
         length-table (references ws) (referenceRow ws xs),
       )
 
-  -- what the row count leaves
-  length-margins : length margins ≡ 2 * ratings ws xs + segmentsBefore ws (generators ws)
-  length-margins =
+  -- two a rated branch
+  length-thermals : (m : ℕ) → length (each m (thermalRows ws xs)) ≡ 2 * tally m (rated ws xs)
+  unfolding loop each thermalRows
+  length-thermals zero = omega (arith, tally-none (rated ws xs))
+  length-thermals (suc m) =
+      let from-row = thermalRow ws xs m (pFrom ws m) (qFrom ws m) in
+      let to-row = thermalRow ws xs m (pTo ws m) (qTo ws m) in
       omega (
         arith,
-        ap length in-three,
-        length-append (balances ++ angles) margins,
-        length-append balances angles,
-        length-balances,
-        length-kept (branches ws) (angled ws) (angleRow ws xs),
-        count-rows ws xs,
+        length-append (each m (thermalRows ws xs)) (thermalRows ws xs m),
+        length-append (keep (rated ws xs m) from-row) (keep (rated ws xs m) to-row),
+        length-keep (rated ws xs m) from-row,
+        length-keep (rated ws xs m) to-row,
+        tally-bit m (rated ws xs),
+        length-thermals m,
       )
 
-  -- ---- a side: 0 at every balance, `free` at every margin, and number `offset` at a branch's angle difference
+  -- one a segment
+  length-segments : (k : ℕ) → length (each k (segmentRows ws xs)) ≡ segmentsBefore ws k
+  unfolding loop each segmentRows segmentsBefore
+  length-segments zero = refl
+  length-segments (suc k) =
+      length-append (each k (segmentRows ws xs)) (segmentRows ws xs k) ∙ ap₂ (λ x y. x + y) (length-segments k) (one (curved ws k))
+    where
+      one : (b : Bool) → length (cond b (table (segments ws k) (segmentRow ws xs k)) []) ≡ cond b (segments ws k) 0
+      one true = length-table (segments ws k) (segmentRow ws xs k)
+      one false = refl
 
-  module _ (side : Row → Float) (offset : ℕ) (free : Float) where
-    pub record Side : Type 0 where
-      pub p : (i : ℕ) → side (pBalance ws xs i) ≡ zero64
-      pub q : (i : ℕ) → side (qBalance ws xs i) ≡ zero64
-      pub reference : (r : ℕ) → side (referenceRow ws xs r) ≡ zero64
-      pub angle : (b : ℕ) → side (angleRow ws xs b) ≡ number xs (branchAt ws b + offset)
-      pub thermal : (b i : ℕ) → Every (λ j r. side r ≡ free) i (thermalRows ws xs b)
-      pub segment : (g s : ℕ) → side (segmentRow ws xs g s) ≡ free
+  module _ {layout : Layout} {tallies : Tallies} (L : Laid ws xs layout) (T : Tallied ws xs tallies) where
+    in-balances : length balances ≡ 2 * layout .buses + layout .references
+    in-balances = rw (L .words .is) length-balances
 
-    module _ (S : Side) where
-      side-balances : map side balances ≡ replicate (2 * buses ws + references ws) zero64
-      side-balances =
-          map-same side zero64 0 balances
-          (every-append (every-append (every-table (buses ws) _ (λ j l. S .p j)) (every-table (buses ws) _ (λ j l. S .q j)))
-          (every-table (references ws) _ (λ j l. S .reference j)) .all)
-          ∙ ap (λ k. replicate k zero64) length-balances
+    in-margins : length margins ≡ 2 * tallies .rated + tallies .segments
+    in-margins =
+        omega (
+          arith,
+          length-append (each (branches ws) (thermalRows ws xs)) (each (generators ws) (segmentRows ws xs)),
+          length-thermals (branches ws),
+          length-segments (generators ws),
+          T .of-rated,
+          T .of-segments,
+        )
 
-      side-margins : map side margins ≡ replicate (2 * ratings ws xs + segmentsBefore ws (generators ws)) free
-      unfolding segmentRows
-      side-margins =
-          map-same side free 0 margins
-          (every-append (every-each (branches ws) _ (λ b l. S .thermal b _))
-          (every-each (generators ws) _ (λ g l. every-cond (curved ws g) _ (λ e. every-table (segments ws g) _ (λ s m. S .segment g s)))) .all)
-          ∙ ap (λ k. replicate k free) length-margins
+    -- ---- a bound: 0 at every balance, `free` at every margin, and the branch's at an angle difference
 
-      side-angles : map side angles ≡ angleBounds ws xs offset (branches ws)
-      unfolding angleBounds loop each
-      side-angles = map-kept side (branches ws) (angled ws) (angleRow ws xs) ∙ same (branches ws)
-        where
-          same : (m : ℕ) → each m (λ b. keep (angled ws b) (side (angleRow ws xs b))) ≡ each m (λ b. keep (angled ws b) (number xs (branchAt ws b + offset)))
-          same zero = refl
-          same (suc m) = ap₂ (λ x y. x ++ y) (same m) (ap (λ x. keep (angled ws m) x) (S .angle m))
+    module _ (bound : Row → Float) (side : Side) (free : Float) where
+      record Sided : Type 0 where
+        pub p : (i : ℕ) → bound (pBalance ws xs i) ≡ zero64
+        pub q : (i : ℕ) → bound (qBalance ws xs i) ≡ zero64
+        pub reference : (r : ℕ) → bound (referenceRow ws xs r) ≡ zero64
+        pub angle : (b : ℕ) → bound (angleRow ws xs b) ≡ angleBound side (branchRecord ws xs b)
+        pub thermal : (b i : ℕ) → Every (λ j r. bound r ≡ free) i (thermalRows ws xs b)
+        pub segment : (g s : ℕ) → bound (segmentRow ws xs g s) ≡ free
 
-      pub side-is : map side (rows ws xs) ≡ rowBounds ws xs offset free
-      unfolding rowBounds
-      side-is =
-          ap (map side) in-three ∙ map-append side (balances ++ angles) margins
-          ∙ ap₂ (λ x y. x ++ y) (map-append side balances angles ∙ ap₂ (λ x y. x ++ y) side-balances side-angles) side-margins
+      module _ (S : Sided) where
+        of-balances : map bound balances ≡ replicate (2 * layout .buses + layout .references) zero64
+        of-balances =
+            map-same bound zero64 0 balances
+            (every-append (every-append (every-table (buses ws) _ (λ j l. S .p j)) (every-table (buses ws) _ (λ j l. S .q j)))
+            (every-table (references ws) _ (λ j l. S .reference j)) .all)
+            ∙ ap (λ k. replicate k zero64) in-balances
 
-  lower-side : Side (λ r. r .lower) 8 zero64
-  unfolding pBalance qBalance balanceRow thermalRows segmentRow
-  lower-side = record {
-    p = λ i. refl;
-    q = λ i. refl;
-    reference = λ r. refl;
-    angle = λ b. refl;
-    thermal = λ b i. every-append (every-keep (rated ws xs b) _ (λ e. refl)) (every-keep (rated ws xs b) _ (λ e. refl));
-    segment = λ g s. refl;
-  }
+        of-margins : map bound margins ≡ replicate (2 * tallies .rated + tallies .segments) free
+        unfolding segmentRows
+        of-margins =
+            map-same bound free 0 margins
+            (every-append (every-each (branches ws) _ (λ b l. S .thermal b _)) (every-each (generators ws) _ (λ g l. of-curve g)) .all)
+            ∙ ap (λ k. replicate k free) in-margins
+          where
+            of-curve : {i : ℕ} (g : ℕ) → Every (λ j r. bound r ≡ free) i (segmentRows ws xs g)
+            of-curve g = every-cond (curved ws g) _ (λ e. every-table (segments ws g) _ (λ s m. S .segment g s))
 
-  upper-side : Side (λ r. r .upper) 9 huge64
-  unfolding pBalance qBalance balanceRow thermalRows segmentRow
-  upper-side = record {
-    p = λ i. refl;
-    q = λ i. refl;
-    reference = λ r. refl;
-    angle = λ b. refl;
-    thermal = λ b i. every-append (every-keep (rated ws xs b) _ (λ e. refl)) (every-keep (rated ws xs b) _ (λ e. refl));
-    segment = λ g s. refl;
-  }
+        of-angles : map bound angles ≡ angleBounds ws xs side (layout .branches)
+        unfolding angleBounds loop each
+        of-angles =
+            map-kept bound (branches ws) (angled ws) (angleRow ws xs) ∙ same (branches ws)
+            ∙ ap (λ l. angleBounds ws xs side (l .branches)) (sym (L .words .is))
+          where
+            same : (m : ℕ) → each m (λ b. keep (angled ws b) (bound (angleRow ws xs b))) ≡ angleBounds ws xs side m
+            same zero = refl
+            same (suc m) = ap₂ (λ x y. x ++ y) (same m) (ap (λ x. keep (angled ws m) x) (S .angle m))
 
-  pub lower-is : rowLower ws xs ≡ rowBounds ws xs 8 zero64
-  unfolding rowLower
-  lower-is = side-is (λ r. r .lower) 8 zero64 lower-side
+        bounds-are : map bound (rows ws xs) ≡ rowBounds ws xs layout tallies side free
+        unfolding rowBounds
+        bounds-are =
+            ap (map bound) in-three ∙ map-append bound (balances ++ angles) margins
+            ∙ ap₂ (λ x y. x ++ y) (map-append bound balances angles ∙ ap₂ (λ x y. x ++ y) of-balances of-angles) of-margins
 
-  pub upper-is : rowUpper ws xs ≡ rowBounds ws xs 9 huge64
-  unfolding rowUpper
-  upper-is = side-is (λ r. r .upper) 9 huge64 upper-side
+    lower-sided : Sided (λ r. r .lower) Lower zero64
+    unfolding pBalance qBalance balanceRow thermalRows segmentRow
+    lower-sided = record {
+      p = λ i. refl;
+      q = λ i. refl;
+      reference = λ r. refl;
+      angle = λ b. refl;
+      thermal = λ b i. every-append (every-keep (rated ws xs b) _ (λ e. refl)) (every-keep (rated ws xs b) _ (λ e. refl));
+      segment = λ g s. refl;
+    }
 
-  pub length-angles : (offset m : ℕ) → length (angleBounds ws xs offset m) ≡ tally m (angled ws)
-  unfolding angleBounds
-  length-angles offset m = length-kept m (angled ws) (λ b. number xs (branchAt ws b + offset))
+    upper-sided : Sided (λ r. r .upper) Upper huge64
+    unfolding pBalance qBalance balanceRow thermalRows segmentRow
+    upper-sided = record {
+      p = λ i. refl;
+      q = λ i. refl;
+      reference = λ r. refl;
+      angle = λ b. refl;
+      thermal = λ b i. every-append (every-keep (rated ws xs b) _ (λ e. refl)) (every-keep (rated ws xs b) _ (λ e. refl));
+      segment = λ g s. refl;
+    }
 
-  pub length-bounds : (offset : ℕ) (free : Float) → length (rowBounds ws xs offset free) ≡ length (rows ws xs)
-  unfolding rowBounds
-  length-bounds offset free =
-      let z = replicate (2 * buses ws + references ws) zero64 in
-      let a = angleBounds ws xs offset (branches ws) in
-      let f = replicate (2 * ratings ws xs + segmentsBefore ws (generators ws)) free in
-      omega (
-        arith,
-        length-append (z ++ a) f,
-        length-append z a,
-        length-replicate (2 * buses ws + references ws) zero64,
-        length-replicate (2 * ratings ws xs + segmentsBefore ws (generators ws)) free,
-        length-angles offset (branches ws),
-        count-rows ws xs,
-      )
+    pub lower-is : rowLower ws xs ≡ rowBounds ws xs layout tallies Lower zero64
+    unfolding rowLower
+    lower-is = bounds-are (λ r. r .lower) Lower zero64 lower-sided
+
+    pub upper-is : rowUpper ws xs ≡ rowBounds ws xs layout tallies Upper huge64
+    unfolding rowUpper
+    upper-is = bounds-are (λ r. r .upper) Upper huge64 upper-sided
+
+    -- a list that holds a number a row holds them
+    pub lower-fits : {room : ℕ} → length (rows ws xs) ≤ room → length (rowBounds ws xs layout tallies Lower zero64) ≤ room
+    lower-fits h = omega (arith, ap length lower-is, lower-rows ws xs)
+
+    pub upper-fits : {room : ℕ} → length (rows ws xs) ≤ room → length (rowBounds ws xs layout tallies Upper huge64) ≤ room
+    upper-fits h = omega (arith, ap length upper-is, upper-rows ws xs)

@@ -1,103 +1,71 @@
--- One turn of each loop over branches, by what the code holds.
-use Prim.Native.Nat.{ℕ, suc, _+_, _-_, _*_, _≤_, _<_}
+-- One turn of the loop over branches, and the three sections one after the other.
+use Prim.Native.Nat.{ℕ, _+_, _*_, _≤_, _<_}
 use native.Mathlib.Omega.{arith}
-use mathlib.Core.Path.{_≡_, _∙_}
-use mathlib.Core.Bool.{Bool, cond}
+use mathlib.Core.Path.{_≡_}
+use mathlib.Core.Bool.{cond}
 use mathlib.Core.List.{List, _++_}
-use lib.Ieee.{Float, nan}
-use lib.ListN.{length, getD, drop, replicate}
-use Rattle.base.specs.Loop.{loop, each, keep, tally}
-use Rattle.base.proofs.Loops.{tally-bit, tally-up}
-use Rattle.base.proofs.Firsts.{Clear}
-use Rattle.float.specs.Number.{zero64}
-use Rattle.tables.specs.Fault.{faultTables}
-use Rattle.network.specs.Network.{buses, generators, branches, references, angled, generatorAt, branchAt, needed, number}
-use Rattle.network.specs.Word.{branchAngled}
-use Rattle.tables.proofs.Laid.{good}
-use Rattle.acopf.specs.Rows.{rows}
-use Rattle.factor.specs.NonFinite.{segmentsBefore}
-use Rattle.factor.proofs.Sizes.{ratings, count-rows}
-use Rattle.factor.proofs.Steps.{tally-next}
+use lib.Ieee.{Float}
+use lib.ListN.{length, length-append, length-replicate, drop, replicate}
+use Rattle.base.specs.Loop.{keep}
 use Rattle.base.specs.contracts.Section.{Wrote}
-use Rattle.rows.specs.contracts.Bounds.{angleBounds, rowBounds}
-use Rattle.base.proofs.Sections.{wrote-none, each-next, wrote-front, then}
-use Rattle.rows.proofs.Sides.{length-angles, length-bounds}
+use Rattle.base.proofs.Loops.{length-keep}
+use Rattle.base.proofs.Sections.{each-none, each-next, each-fits, wrote-front, then}
+use Rattle.float.specs.Number.{zero64}
+use Rattle.network.specs.declared.layout.Layout.{Layout}
+use Rattle.network.specs.declared.records.Branch.{Branch}
+use Rattle.network.specs.Layout.{BranchRead, branchRecord}
+use Rattle.network.specs.Network.{angled}
+use Rattle.acopf.specs.declared.tallies.Tallies.{Tallies}
+use Rattle.rows.specs.contracts.Bounds.{angleBound, angleBounds, rowBounds}
+use Rattle.rows.specs.declared.Side.{Side}
 
--- the branches' numbers end the list
-module _ (ws : List ℕ) (xs : List Float) (right : Clear (faultTables ws xs)) where
-  pub start-is : length xs ≡ generatorAt ws (generators ws) + 11 * branches ws
-  unfolding needed branchAt
-  start-is = good ws xs right .numbers
+module _ (ws : List ℕ) (xs : List Float) (side : Side) where
+  -- a branch's part of the angles' section
+  abbrev anglePart : ℕ → List Float
+  anglePart b = keep (angled ws b) (angleBound side (branchRecord ws xs b))
 
-  pub start-at : {m k : ℕ} → m ≡ branches ws → k ≡ generators ws → length xs - 11 * m ≡ generatorAt ws k
-  start-at {m} {k} e f = rw (e, f) (omega (arith, start-is))
+  pub angles-none : {at : ℕ} (l : List Float) → Wrote l at (angleBounds ws xs side 0) l at
+  unfolding angleBounds
+  angles-none l = each-none anglePart
 
-pub angled-is : (ws : List ℕ) (b : ℕ) {n k : ℕ} {on : Bool} → n ≡ buses ws → k ≡ generators ws → on ≡ branchAngled (getD ws (1 + n + k + b) 0) → on ≡ angled ws b
-angled-is ws b e f h = h ∙ rw (e, f)
-
-pub count-turn : (t : ℕ → Bool) (b : ℕ) {count r : ℕ} {on : Bool} → on ≡ t b → r ≡ cond on (suc count) count → count ≡ tally b t → r ≡ tally (b + 1) t
-count-turn t b h e c = rw (tally-next, e, h, c)
-
-module _ (ws : List ℕ) (xs : List Float) (offset : ℕ) where
-  pub angles-none : {at : ℕ} (l : List Float) → Wrote l at (angleBounds ws xs offset 0) l at
-  unfolding angleBounds loop each
-  angles-none {at} l = wrote-none l at
-
-  pub angles-turn : (b : ℕ) {k start at j next : ℕ} {l m l′ : List Float} {on : Bool} → k ≡ generators ws → start ≡ generatorAt ws k → on ≡ angled ws b
-      → Wrote l at (angleBounds ws xs offset b) m j → Wrote m j (keep on (getD xs (start + 11 * b + offset) nan)) l′ next
-      → Wrote l at (angleBounds ws xs offset (b + 1)) l′ next
-  unfolding angleBounds branchAt
-  angles-turn b f s h p q = each-next (λ b. keep (angled ws b) (number xs (branchAt ws b + offset))) b p (rw (s, f, h) at q)
+  pub angles-turn : {layout : Layout} {b at j next : ℕ} {l m l′ : List Float} {branch : Branch} {bound : Float}
+      → BranchRead ws xs layout b branch → bound ≡ angleBound side branch → Wrote l at (angleBounds ws xs side b) m j
+      → Wrote m j (keep (branch .angled) bound) l′ next → Wrote l at (angleBounds ws xs side (b + 1)) l′ next
+  unfolding angleBounds
+  angles-turn {b = b} B e p q = each-next anglePart b p (rw (e, B .is) at q)
 
   -- there is room for one more where it is active
-  pub angles-room : (b count : ℕ) {at j : ℕ} {l m : List Float} {on : Bool} → on ≡ angled ws b → b < count → at + tally count (angled ws) ≤ length l
-      → length m ≡ length l → Wrote l at (angleBounds ws xs offset b) m j → j + cond on 1 0 ≤ length m
-  angles-room b count {at} {j} {l} {m} {on} h n r e p =
-      rw h (omega (
+  pub angles-room : {layout : Layout} {b count at j : ℕ} {l m : List Float} {branch : Branch} → BranchRead ws xs layout b branch → b < count
+      → at + length (angleBounds ws xs side count) ≤ length l → length m ≡ length l → Wrote l at (angleBounds ws xs side b) m j
+      → j + cond (branch .angled) 1 0 ≤ length m
+  unfolding angleBounds
+  angles-room {b = b} {count = count} B n r e p =
+      rw (B .is) (omega (
         arith,
         p .follows,
-        length-angles ws xs offset b,
-        tally-bit b (angled ws),
-        tally-up (suc b) count (angled ws) n,
+        each-fits count anglePart b n,
+        length-keep (angled ws b) (angleBound side (branchRecord ws xs b)),
       ))
 
--- ---- one side's three sections
-
--- how many rows follow the angle differences
-abbrev pub laterRows : List ℕ → List Float → ℕ
-laterRows ws xs = 2 * ratings ws xs + segmentsBefore ws (generators ws)
-
--- the sizes of a network that is not refused, where a list of length `room` holds a number a row
-pub record Sized (ws : List ℕ) (xs : List Float) (n k m r room : ℕ) : Type 0 where
-  pub few-buses : n ≤ 256
-  pub few-generators : k ≤ 256
-  pub few-branches : m ≤ 512
-  pub few-references : r ≤ 256
-  pub words : 1 + n + k + m ≤ length ws
-  pub numbers : 11 * m ≤ length xs
-  pub start : length xs - 11 * m ≡ generatorAt ws k
-  pub fits : 2 * n + r + tally m (angled ws) + laterRows ws xs ≤ room
-
-pub sized : (ws : List ℕ) (xs : List Float) {n k m r room : ℕ} → n ≡ buses ws → k ≡ generators ws → m ≡ branches ws → r ≡ references ws
-    → Clear (faultTables ws xs) → length (rows ws xs) ≤ room → Sized ws xs n k m r room
-sized ws xs {n} {k} {m} {r} {room} a b c d h l =
-    let G = good ws xs h in
-    record {
-      few-buses = rw a (G .few-buses);
-      few-generators = rw b (G .few-generators);
-      few-branches = rw c (G .few-branches);
-      few-references = rw d (G .few-references);
-      words = rw (a, b, c) (omega (arith, G .words));
-      numbers = omega (arith, start-is ws xs h);
-      start = start-at ws xs h c b;
-      fits = rw (a, c, d) (omega (arith, count-rows ws xs));
-    }
-
-module _ (ws : List ℕ) (xs : List Float) (offset : ℕ) (free : Float) where
-  pub bounds-done : {n m r later i j e : ℕ} {l l₁ l₂ l₃ : List Float} → n ≡ buses ws → m ≡ branches ws → r ≡ references ws → later ≡ laterRows ws xs
-      → length (rows ws xs) ≤ length l
-      → Wrote l 0 (replicate (2 * n + r) zero64) l₁ i → Wrote l₁ i (angleBounds ws xs offset m) l₂ j → Wrote l₂ j (replicate later free) l₃ e
-      → l₃ ≡ rowBounds ws xs offset free ++ drop (length (rowBounds ws xs offset free)) l
+module _ (ws : List ℕ) (xs : List Float) (layout : Layout) (tallies : Tallies) (side : Side) (free : Float) where
+  pub length-bounds : length (rowBounds ws xs layout tallies side free)
+      ≡ 2 * layout .buses + layout .references + length (angleBounds ws xs side (layout .branches)) + (2 * tallies .rated + tallies .segments)
   unfolding rowBounds
-  bounds-done a c d f h p q s =
-      wrote-front (rw (a, c, d, f) at (then (then p q) s)) (omega (arith, length-bounds ws xs offset free))
+  length-bounds =
+      let z = replicate (2 * layout .buses + layout .references) zero64 in
+      let a = angleBounds ws xs side (layout .branches) in
+      let f = replicate (2 * tallies .rated + tallies .segments) free in
+      omega (
+        arith,
+        length-append (z ++ a) f,
+        length-append z a,
+        length-replicate (2 * layout .buses + layout .references) zero64,
+        length-replicate (2 * tallies .rated + tallies .segments) free,
+      )
+
+  pub bounds-done : {i j e : ℕ} {l l₁ l₂ l₃ : List Float} → length (rowBounds ws xs layout tallies side free) ≤ length l
+      → Wrote l 0 (replicate (2 * layout .buses + layout .references) zero64) l₁ i → Wrote l₁ i (angleBounds ws xs side (layout .branches)) l₂ j
+      → Wrote l₂ j (replicate (2 * tallies .rated + tallies .segments) free) l₃ e
+      → l₃ ≡ rowBounds ws xs layout tallies side free ++ drop (length (rowBounds ws xs layout tallies side free)) l
+  unfolding rowBounds
+  bounds-done h p q s = wrote-front (then (then p q) s) h
