@@ -29,7 +29,13 @@ branch-start-requires : tie.Need-branch-start-requires
 branch-start-requires c κs = (c .before .before .before .before .before .before .before .pre .0 .words, c .before .before .before .before .before .before .before .pre .1)
 
 coefficients-requires : tie.Need-coefficients-requires
-coefficients-requires c κs = omega (arith, c .branch-start .ensures .0, c .before .before .before .before .before .before .before .before .pre .0 .branch-fits (c .before .before .before .before .before .before .before .before .args .b) (c .before .before .before .before .before .before .before .before .pre .1))
+coefficients-requires c κs =
+    let pre = c .before .before .before .before .before .before .before .before .pre in
+    omega (
+      arith,
+      c .branch-start .ensures .0,
+      pre .0 .branch-fits (c .before .before .before .before .before .before .before .before .args .b) (pre .1),
+    )
 
 mul-branch-parts : tie.Need-mul-branch-parts
 mul-branch-parts c =
@@ -43,13 +49,18 @@ add-branch-parts c =
 
 branch-parts-requires : tie.Need-branch-parts-requires
 branch-parts-requires c κs =
-    let few = c .before .before .before .before .before .before .before .before .before .before .before .pre .0 .words in
-    let same = parts-as (c .before .before .before .before .before .before .before .before .before .before .before .pre .0) (c .before .before .before .before .before .before .before .before .before .before .before .args .b) (c .before .before .before .branch-start .ensures .0) (c .before .before .before .before .before .branch-from .ensures) (c .before .before .before .before .branch-to .ensures) (c .before .before .coefficients .ensures) in (
+    let pre = c .before .before .before .before .before .before .before .before .before .before .before .pre in
+    let branch-from = c .before .before .before .before .before .branch-from in
+    let branch-to = c .before .before .before .before .branch-to in
+    let few = pre .0 .words in
+    let same =
+    parts-as (pre .0) (c .before .before .before .before .before .before .before .before .before .before .before .args .b)
+    (c .before .before .before .branch-start .ensures .0) (branch-from .ensures) (branch-to .ensures) (c .before .before .coefficients .ensures) in (
       few .few-buses,
-      omega (arith, few .few-buses, few .few-branches, c .before .before .before .before .before .before .before .before .before .before .before .pre .1),
-      rw (c .before .before .before .before .before .branch-from .ensures) (omega arith),
-      rw (c .before .before .before .before .branch-to .ensures) (omega arith),
-      rw same at (c .before .before .before .before .before .before .before .before .before .before .before .pre .2),
+      omega (arith, few .few-buses, few .few-branches, pre .1),
+      rw (branch-from .ensures) (omega arith),
+      rw (branch-to .ensures) (omega arith),
+      rw same at (pre .2),
     )
 
 same-length : tie.Need-same-length
@@ -60,7 +71,14 @@ same-length-2 c = search needs
 
 returns : tie.Need-returns
 returns c =
-    let same = parts-as (c .before .before .before .before .before .before .before .before .before .before .before .before .before .before .before .before .pre .0) (c .before .before .before .before .before .before .before .before .before .before .before .before .before .before .before .before .args .b) (c .before .before .before .before .before .before .before .before .branch-start .ensures .0) (c .before .before .before .before .before .before .before .before .before .before .branch-from .ensures) (c .before .before .before .before .before .before .before .before .before .branch-to .ensures) (c .before .before .before .before .before .before .before .coefficients .ensures) in
+    let same =
+    parts-as
+    (c .before .before .before .before .before .before .before .before .before .before .before .before .before .before .before .before .pre .0)
+    (c .before .before .before .before .before .before .before .before .before .before .before .before .before .before .before .before .args .b)
+    (c .before .before .before .before .before .before .before .before .branch-start .ensures .0)
+    (c .before .before .before .before .before .before .before .before .before .before .branch-from .ensures)
+    (c .before .before .before .before .before .before .before .before .before .branch-to .ensures)
+    (c .before .before .before .before .before .before .before .coefficients .ensures) in
     rw same (c .before .before .before .before .branch-parts .ensures)
 
 pub branch-flow-spec : {M : Type 1} → statement M
