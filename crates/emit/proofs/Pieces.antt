@@ -1,10 +1,10 @@
 -- The model's pieces as tokens over the numbers that the code holds.
-use Prim.Native.Nat.{ℕ, _+_, _-_, _*_}
+use Prim.Native.Nat.{ℕ, _+_, _-_, _*_, _<_, _≤_}
+use native.Mathlib.Omega.{arith}
 use mathlib.Core.Path.{_≡_}
-use mathlib.Core.Bool.{Bool, cond, not, _&&_}
+use mathlib.Core.Bool.{Bool, true, false, cond}
 use mathlib.Core.List.{List, [], _∷_}
 use lib.ListN.{getD}
-use lib.Dec.{eqb}
 use lib.Ieee.{Float}
 use Rattle.base.specs.Loop.{each, keep}
 use Rattle.float.specs.Number.{half64, _⊗_}
@@ -41,7 +41,7 @@ module _ {ws : List ℕ} {xs : List Float} {l : Layout} (L : Laid ws xs l) where
   -- ---- a generator's segments and cost
 
   pub curve-is : {e count : ℕ} {r : Generator} (g : ℕ) → r ≡ generatorRecord ws xs g → e ≡ epigraphsBefore ws g
-      → count ≡ cond (l .costs && not (eqb (r .points) 0)) (r .points - 1) 0
+      → count ≡ cond (r .curved) (r .points - 1) 0
       → curveTokens ws xs g ≡ each count (segmentTokens xs (r .curve) (2 * l .buses + 2 * l .generators + e) (2 * l .buses + g))
   unfolding curveTokens
   curve-is g er ee ec = rw (ec, er, ee, L .words .is)
@@ -50,3 +50,8 @@ module _ {ws : List ℕ} {xs : List Float} {l : Layout} (L : Laid ws xs l) where
       → costTerm ws xs g ≡ cond (r .curved) (column (2 * l .buses + 2 * l .generators + e)) (costOf (2 * l .buses + g) (half64 ⊗ r .«cost_q») (r .«cost_c»))
   unfolding costTerm
   cost-is g er ee = rw (er, ee, L .words .is)
+
+-- a segment with a row lies in its curve
+pub segment-fits : (curved : Bool) {count s points : ℕ} → count ≡ cond curved (points - 1) 0 → s < count → s + 2 ≤ points
+segment-fits true e h = omega arith
+segment-fits false e h = absurd (omega arith)

@@ -1,35 +1,28 @@
 -- The whole file as tokens: shared parts, rows, objective and end.
-use Prim.Native.Nat.{ℕ, zero, suc, _+_, _-_, _*_, _≤_}
+use Prim.Native.Nat.{ℕ, suc, _+_, _≤_}
 use native.Mathlib.Nat.{zero-add}
 use native.Mathlib.Omega.{arith}
 use mathlib.Core.Path.{_≡_, refl, sym, ap, _∙_}
-use mathlib.Core.Bool.{Bool, true, false, cond, not, _&&_}
+use mathlib.Core.Bool.{Bool, true, false, cond}
 use mathlib.Core.List.{List, [], _∷_, _++_, map, append-assoc, append-nil}
 use lib.ListN.{length, length-append, length-map}
-use lib.Dec.{eqb, ltb}
+use lib.Dec.{eqb}
 use lib.Ieee.{Float, binary64, ofBits}
 use borrow.Author.Tests.{ne-eqb}
 use Rattle.base.specs.Loop.{table, each, keep}
 use Rattle.base.specs.Word.{word}
-use Rattle.base.proofs.Firsts.{Clear}
-use Rattle.base.proofs.Loops.{bit, length-table, tally-le}
+use Rattle.base.proofs.Loops.{length-table}
 use Rattle.nl.specs.Expr.{Expr, constants, constantsOf}
 use Rattle.nl.specs.File.{modelWords, modelConstants}
-use Rattle.tables.specs.Fault.{faultTables}
-use Rattle.network.specs.Network.{buses, generators, branches, references, costs, curved, segments, angled, epigraphsBefore}
+use Rattle.network.specs.Network.{buses, generators, branches, references, costs, curved, segments, angled}
 use Rattle.network.specs.declared.layout.Layout.{Layout}
 use Rattle.network.specs.Layout.{Laid, layoutOf}
-use Rattle.tables.proofs.Laid.{good}
-use Rattle.tables.proofs.Right.{words-clear}
 use Rattle.acopf.specs.Build.{terms, sum}
 use Rattle.acopf.specs.Factor.{constants64}
 use Rattle.acopf.specs.Model.{costTerm, objective, model, fileWords}
 use Rattle.acopf.specs.Parts.{branchParts, sharedParts, pFrom, qFrom, pTo, qTo}
 use Rattle.acopf.specs.Rows.{Row, rows, pBalance, qBalance, referenceRow, angleRow, rated, thermalRow, thermalRows, segmentRow, segmentRows}
 use Rattle.acopf.proofs.Counts.{count-terms}
-use Rattle.factor.specs.NonFinite.{segmentsBefore}
-use Rattle.factor.proofs.Sizes.{objectiveWords, count-of-words}
-use Rattle.factor.proofs.Steps.{segments-none, segments-next, epigraphs-le}
 use Rattle.writer.specs.declared.writer.Writer.{Writer}
 use Rattle.base.specs.contracts.Section.{Wrote}
 use Rattle.writer.specs.contracts.Tokens.{Token, fixed, numbered, begins, wordsFrom, numbersOf, begun, tokens, listTokens, partTokens, Written, Room}
@@ -38,6 +31,7 @@ use Rattle.balance.specs.contracts.Balance.{balanceOf, balancesOf}
 use Rattle.emit.specs.contracts.Rows.{angleTokens, thermalTokens, curveTokens}
 use Rattle.emit.specs.contracts.Objective.{sumHead, costCount, objectiveTokens}
 use Rattle.emit.specs.contracts.Whole.{busRows, branchRows, rowTokens}
+use Rattle.emit.proofs.Few.{all-most}
 use Rattle.base.proofs.Sections.{then}
 use Rattle.writer.proofs.Tokens.{map-append, numbers-append, words-append, length-words, parts-append, parts-each, parts-table, each-through, each-same, each-zero, table-each, list-terms, list-each, part-words-are, part-numbers-are, words-are, numbers-are}
 
@@ -247,43 +241,6 @@ module _ {ws : List ℕ} {xs : List Float} {l : Layout} (L : Laid ws xs l) where
   pub numbers-at : constants64 ws xs ≡ numbersOf us ++ numbersOf (rowTokens ws xs l)
   numbers-at = rw (L .words .is) (numbers-whole ws xs)
 
--- ---- a network that refusals 1 to 10 do not refuse
-
-few-segments : (ws : List ℕ) (g : ℕ) → segmentsBefore ws g ≤ 31 * g
-few-segments ws zero = omega (arith, segments-none ws)
-few-segments ws (suc g) =
-    let n = segments-next ws g in
-    let e : suc g ≡ g + 1 = omega arith in
-    rw e (omega (arith, few-segments ws g, one (curved ws g)))
-  where
-    one : (b : Bool) → cond b (segments ws g) 0 ≤ 31
-    one true = omega arith
-    one false = omega arith
-
-few-objective : (ws : List ℕ) → objectiveWords ws ≤ 8 * generators ws + 2
-unfolding objectiveWords
-few-objective ws = go (costs ws && not (eqb (generators ws) 0)) (ltb 1 (generators ws)) (epigraphs-le ws (generators ws))
-  where
-    go : (a b : Bool) → epigraphsBefore ws (generators ws) ≤ generators ws
-        → cond a (bit b + (epigraphsBefore ws (generators ws) + 8 * (generators ws - epigraphsBefore ws (generators ws)))) 1 ≤ 8 * generators ws + 2
-    go true true h = omega arith
-    go true false h = omega arith
-    go false b h = omega arith
-
-module _ (ws : List ℕ) (xs : List Float) (right : Clear (faultTables ws xs)) where
   -- every running number fits in 28 bits
   pub few-words : length (fileWords ws xs) ≤ 268435456
-  few-words =
-      let G = good ws xs right in
-      omega (
-        arith,
-        count-of-words ws xs (words-clear ws xs right),
-        G .few-buses,
-        G .few-generators,
-        G .few-branches,
-        G .few-references,
-        tally-le (branches ws) (angled ws),
-        tally-le (branches ws) (rated ws xs),
-        few-segments ws (generators ws),
-        few-objective ws,
-      )
+  few-words = omega (arith, lw us (rowTokens ws xs l) _ _ words-at numbers-at, all-most L)

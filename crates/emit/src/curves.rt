@@ -1,8 +1,8 @@
 // The rows of curve segments.
 use acopf::counted;
 use acopf::intercept_of;
+use acopf::row_segments;
 use acopf::slope_of;
-use factor::row_segments;
 use network::Layout;
 use network::first_generator;
 use network::generator_of;
@@ -110,7 +110,7 @@ pub(crate) fn curve_rows(
     let mut epigraphs = 0usize;
     while cursor.index < k {
         let generator = generator_of(words, numbers, layout, cursor);
-        let count = row_segments(layout.costs, generator.points);
+        let count = row_segments(generator.curved, generator.points);
         let epigraph = 2 * n + 2 * k + epigraphs;
         let pg = 2 * n + cursor.index;
         next = segment_rows(

@@ -260,7 +260,8 @@ fn branch_flows(
     writer: Writer,
 ) -> Writer
     requires { ⌜ Laid (now words) (now numbers) layout
-        × Room (now file) (now constants) writer (each (layout .branches) (λ b. partTokens 10 (branchParts (now words) (now numbers) b))) ⌝ }
+        × Room (now file) (now constants) writer
+        (each (layout .branches) (λ b. partTokens 10 (branchParts (now words) (now numbers) b))) ⌝ }
     ensures { λ r. ⌜ Written (now (file .entry)) (now (constants .entry)) writer
         (each (layout .branches) (λ b. partTokens 10 (branchParts (now (words .entry)) (now (numbers .entry)) b)))
         (now (file .exit)) (now (constants .exit)) r ⌝ }

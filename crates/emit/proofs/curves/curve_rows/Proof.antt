@@ -1,17 +1,16 @@
 use native.Mathlib.Omega.{arith}
 use borrow.Author.Needs.{needs}
 use Prim.Native.Nat.{_-_, _≤_}
-use mathlib.Core.Path.{_≡_, sym, ap}
+use mathlib.Core.Path.{_≡_, sym}
 use lib.ListN.{length}
 use Rattle.base.specs.Loop.{each}
-use Rattle.network.specs.declared.records.Generator.{Generator}
 use Rattle.network.specs.Layout.{Standing}
 use Rattle.network.specs.Network.{epigraphsBefore}
-use Rattle.factor.proofs.Steps.{epigraphs-none, epigraphs-turn}
+use Rattle.acopf.proofs.Tallied.{epigraphs-none, epigraphs-turn}
 use Rattle.writer.specs.contracts.Tokens.{Written}
 use Rattle.writer.proofs.Tokens.{turns-none, turns-step, turns-room}
 use Rattle.emit.specs.contracts.Rows.{curveTokens}
-use Rattle.emit.proofs.Pieces.{curve-is}
+use Rattle.emit.proofs.Pieces.{curve-is, segment-fits}
 use Rattle.emit.proofs.curves.curve_rows.Statement.{statement}
 use Rattle.emit.proofs.curves.curve_rows.Tie as tie
 
@@ -76,16 +75,21 @@ add-pg c =
 
 segment-rows-requires : tie.Need-segment-rows-requires Inv-loop μ-loop
 segment-rows-requires c κs =
+    let pre = c .before .before .before .before .before .before .before .before .before .before .before .before .before .pre in
+    let loop = c .before .before .before .before .before .before .before .loop in
+    let generator-of = c .before .before .before .before .generator-of in
+    let row-segments = c .before .before .before .row-segments in
     let args = c .before .before .before .before .before .before .before .before .before .before .before .before .before .args in
-    let few = c .before .before .before .before .before .before .before .before .before .before .before .before .before .pre .0 .words in
-    let inv = c .before .before .before .before .before .before .before .loop .inv in
+    let few = pre .0 .words in
+    let inv = loop .inv in
     let here = c .before .before .before .before .before .if1 .taken in
-    let read = c .before .before .before .before .generator-of .ensures in
-    let count = c .before .before .before .row-segments .ensures .1 in
-    let same = curve-is (c .before .before .before .before .before .before .before .before .before .before .before .before .before .pre .0) (c .before .before .before .before .before .before .before .loop .cursor .index) (c .before .before .before .before .generator-of .ensures .is) (c .before .before .before .before .before .before .before .loop .inv .3) (c .before .before .before .row-segments .ensures .0) in
-    let room = turns-room (args .layout .generators) (curveTokens (args .words .now) (args .numbers .now)) (c .before .before .before .before .before .before .before .loop .cursor .index) here (c .before .before .before .before .before .before .before .before .before .before .before .before .before .pre .1) (inv .5) (inv .0) (inv .1) in (
-      λ i h. omega (arith, count, read .curve),
-      omega (arith, count, read .points),
+    let read = generator-of .ensures in
+    let same = curve-is (pre .0) (loop .cursor .index) (read .is) (inv .3) (row-segments .ensures .0) in
+    let room =
+    turns-room (args .layout .generators) (curveTokens (args .words .now) (args .numbers .now)) (loop .cursor .index) here (pre .1) (inv .5)
+    (inv .0) (inv .1) in (
+      λ s h. omega (arith, segment-fits (generator-of .result .curved) (row-segments .ensures .0) h, read .curve),
+      omega (arith, row-segments .ensures .1, read .points),
       omega (arith, few .few-buses, few .few-generators, inv .4, here),
       omega (arith, few .few-buses, few .few-generators, here),
       rw same at room,
@@ -98,24 +102,35 @@ counted-requires c κs =
     omega (arith, few .few-buses, few .few-generators, c .before .before .before .before .before .before .before .before .before .before .if1 .taken, inv .2 .within, inv .4)
 
 next-generator-requires : tie.Need-next-generator-requires Inv-loop μ-loop
-next-generator-requires c κs = (c .before .before .before .before .before .before .before .before .before .before .before .before .before .before .before .before .before .before .before .pre .0 .words, c .before .before .before .before .before .before .before .before .before .before .before .before .before .loop .inv .2, c .before .before .before .before .before .before .before .before .before .before .before .if1 .taken)
+next-generator-requires c κs = (
+  c .before .before .before .before .before .before .before .before .before .before .before .before .before .before .before .before .before .before .before .pre .0 .words,
+  c .before .before .before .before .before .before .before .before .before .before .before .before .before .loop .inv .2,
+  c .before .before .before .before .before .before .before .before .before .before .before .if1 .taken,
+)
 
 loop-less : tie.Need-loop-less Inv-loop μ-loop
 loop-less c = omega (arith, c .next-generator .ensures .1, c .before .before .before .before .before .before .before .before .before .before .before .before .if1 .taken)
 
 loop-again : tie.Need-loop-again Inv-loop μ-loop
 loop-again c =
+    let loop = c .before .before .before .before .before .before .before .before .before .before .before .before .before .before .loop in
+    let read = c .before .before .before .before .before .before .before .before .before .before .before .generator-of .ensures in
+    let segment-rows = c .before .before .before .before .before .before .segment-rows in
     let args = c .before .before .before .before .before .before .before .before .before .before .before .before .before .before .before .before .before .before .before .before .args in
-    let inv = c .before .before .before .before .before .before .before .before .before .before .before .before .before .before .loop .inv in
-    let kept = c .before .before .before .before .before .before .segment-rows .kept in
+    let inv = loop .inv in
+    let kept = segment-rows .kept in
     let turn = c .next-generator .ensures in
-    let curved = ap (λ (r : Generator). r .curved) (c .before .before .before .before .before .before .before .before .before .before .before .generator-of .ensures .is) in
-    let same = curve-is (c .before .before .before .before .before .before .before .before .before .before .before .before .before .before .before .before .before .before .before .before .pre .0) (c .before .before .before .before .before .before .before .before .before .before .before .before .before .before .loop .cursor .index) (c .before .before .before .before .before .before .before .before .before .before .before .generator-of .ensures .is) (c .before .before .before .before .before .before .before .before .before .before .before .before .before .before .loop .inv .3) (c .before .before .before .before .before .before .before .before .before .before .row-segments .ensures .0) in
-    let step = turns-step (curveTokens (args .words .now) (args .numbers .now)) (c .before .before .before .before .before .before .before .before .before .before .before .before .before .before .loop .cursor .index) (inv .5) (rw (← same) at (c .before .before .before .before .before .before .segment-rows .ensures)) in (
+    let same =
+    curve-is
+    (c .before .before .before .before .before .before .before .before .before .before .before .before .before .before .before .before .before .before .before .before .pre .0)
+    (loop .cursor .index) (read .is) (inv .3)
+    (c .before .before .before .before .before .before .before .before .before .before .row-segments .ensures .0) in
+    let step =
+    turns-step (curveTokens (args .words .now) (args .numbers .now)) (loop .cursor .index) (inv .5) (rw (← same) at (segment-rows .ensures)) in (
       omega (arith, kept, inv .0),
       omega (arith, kept, inv .1),
       turn .0,
-      rw (turn .1) (epigraphs-turn (args .words .now) (c .before .before .before .before .before .before .before .before .before .before .before .before .before .before .loop .cursor .index) curved (c .before .counted .ensures .0) (inv .3)),
+      rw (turn .1) (epigraphs-turn read (c .before .counted .ensures .0) (inv .3)),
       omega (arith, turn .1, c .before .counted .ensures .1, inv .4),
       rw (turn .1) step,
       omega (arith, turn .1, c .before .before .before .before .before .before .before .before .before .before .before .before .if1 .taken),

@@ -33,7 +33,17 @@ intercept-of-requires : tie.Need-intercept-of-requires Inv-loop μ-loop
 intercept-of-requires c κs = c .before .before .before .before .before .before .pre .0 (c .before .before .loop .s) (c .before .loop-test .taken)
 
 segment-row-requires : tie.Need-segment-row-requires Inv-loop μ-loop
-segment-row-requires c κs = (c .before .before .before .before .before .before .before .before .before .pre .2, c .before .before .before .before .before .before .before .before .before .pre .3, rw (row-is (c .before .before .before .before .before .before .before .before .before .args .numbers .now) (c .before .before .before .before .before .before .before .before .before .args .at) (c .before .before .before .before .before .before .before .before .before .args .epigraph) (c .before .before .before .before .before .before .before .before .before .args .pg) (c .before .before .before .before .before .loop .s) (c .before .before .before .slope-of .ensures) (c .before .before .intercept-of .ensures)) (turns-room _ (segmentTokens (c .before .before .before .before .before .before .before .before .before .args .numbers .now) (c .before .before .before .before .before .before .before .before .before .args .at) (c .before .before .before .before .before .before .before .before .before .args .epigraph) (c .before .before .before .before .before .before .before .before .before .args .pg)) (c .before .before .before .before .before .loop .s) (search needs) (c .before .before .before .before .before .before .before .before .before .pre .4) (c .before .before .before .before .before .loop .inv .3) (c .before .before .before .before .before .loop .inv .1) (c .before .before .before .before .before .loop .inv .2)))
+segment-row-requires c κs =
+    let args = c .before .before .before .before .before .before .before .before .before .args in
+    let pre = c .before .before .before .before .before .before .before .before .before .pre in
+    let loop = c .before .before .before .before .before .loop in (
+      pre .2,
+      pre .3,
+      rw (row-is (args .numbers .now) (args .at) (args .epigraph) (args .pg) (loop .s) (c .before .before .before .slope-of .ensures)
+          (c .before .before .intercept-of .ensures))
+          (turns-room _ (segmentTokens (args .numbers .now) (args .at) (args .epigraph) (args .pg)) (loop .s) (search needs) (pre .4) (loop .inv .3)
+          (loop .inv .1) (loop .inv .2)),
+    )
 
 add-s : tie.Need-add-s Inv-loop μ-loop
 add-s c = search needs
@@ -42,7 +52,19 @@ loop-less : tie.Need-loop-less Inv-loop μ-loop
 loop-less c = search needs
 
 loop-again : tie.Need-loop-again Inv-loop μ-loop
-loop-again c = (search needs, omega (arith, c .before .before .before .before .segment-row .kept, c .before .before .before .before .before .before .before .before .before .before .loop .inv .1), omega (arith, c .before .before .before .before .segment-row .kept, c .before .before .before .before .before .before .before .before .before .before .loop .inv .2), turns-step (segmentTokens (c .before .before .before .before .before .before .before .before .before .before .before .before .before .before .args .numbers .now) (c .before .before .before .before .before .before .before .before .before .before .before .before .before .before .args .at) (c .before .before .before .before .before .before .before .before .before .before .before .before .before .before .args .epigraph) (c .before .before .before .before .before .before .before .before .before .before .before .before .before .before .args .pg)) (c .before .before .before .before .before .before .before .before .before .before .loop .s) (c .before .before .before .before .before .before .before .before .before .before .loop .inv .3) (rw (row-is (c .before .before .before .before .before .before .before .before .before .before .before .before .before .before .args .numbers .now) (c .before .before .before .before .before .before .before .before .before .before .before .before .before .before .args .at) (c .before .before .before .before .before .before .before .before .before .before .before .before .before .before .args .epigraph) (c .before .before .before .before .before .before .before .before .before .before .before .before .before .before .args .pg) (c .before .before .before .before .before .before .before .before .before .before .loop .s) (c .before .before .before .before .before .before .before .before .slope-of .ensures) (c .before .before .before .before .before .before .before .intercept-of .ensures)) at (c .before .before .before .before .segment-row .ensures)))
+loop-again c =
+    let args = c .before .before .before .before .before .before .before .before .before .before .before .before .before .before .args in
+    let loop = c .before .before .before .before .before .before .before .before .before .before .loop in
+    let segment-row = c .before .before .before .before .segment-row in (
+      search needs,
+      omega (arith, segment-row .kept, loop .inv .1),
+      omega (arith, segment-row .kept, loop .inv .2),
+      turns-step (segmentTokens (args .numbers .now) (args .at) (args .epigraph) (args .pg)) (loop .s) (loop .inv .3)
+          (rw (row-is (args .numbers .now) (args .at) (args .epigraph) (args .pg) (loop .s)
+          (c .before .before .before .before .before .before .before .before .slope-of .ensures)
+          (c .before .before .before .before .before .before .before .intercept-of .ensures))
+          at (segment-row .ensures)),
+    )
 
 same-length : tie.Need-same-length Inv-loop μ-loop
 same-length c = search needs

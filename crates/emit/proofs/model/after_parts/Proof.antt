@@ -39,14 +39,30 @@ objective-and-end-requires c κs =
     (c .before .before .before .before .before .before .before .before .before .before .before .before .before .before .before .before .before .before .before .before .pre .0, room-then q r rest (second .ensures) (omega (arith, second .kept)) (omega (arith, second .kept)))
 
 same-length : tie.Need-same-length
-same-length c = omega (arith, c .before .before .before .before .before .before .before .before .before .before .before .before .before .before .before .before .before .before .bus-rows .kept, c .before .before .before .before .before .before .before .before .before .before .before .branch-rows .kept, c .before .before .before .before .objective-and-end .kept)
+same-length c =
+    omega (
+      arith,
+      c .before .before .before .before .before .before .before .before .before .before .before .before .before .before .before .before .before .before .bus-rows .kept,
+      c .before .before .before .before .before .before .before .before .before .before .before .branch-rows .kept,
+      c .before .before .before .before .objective-and-end .kept,
+    )
 
 same-length-2 : tie.Need-same-length-2
-same-length-2 c = omega (arith, c .before .before .before .before .before .before .before .before .before .before .before .before .before .before .before .before .before .before .bus-rows .kept, c .before .before .before .before .before .before .before .before .before .before .before .branch-rows .kept, c .before .before .before .before .objective-and-end .kept)
+same-length-2 c =
+    omega (
+      arith,
+      c .before .before .before .before .before .before .before .before .before .before .before .before .before .before .before .before .before .before .bus-rows .kept,
+      c .before .before .before .before .before .before .before .before .before .before .before .branch-rows .kept,
+      c .before .before .before .before .objective-and-end .kept,
+    )
 
 returns : tie.Need-returns
 unfolding rowTokens
-returns c = written-then (c .before .before .before .before .before .before .before .before .before .before .before .before .before .before .before .before .before .before .bus-rows .ensures) (written-then (c .before .before .before .before .before .before .before .before .before .before .before .branch-rows .ensures) (c .before .before .before .before .objective-and-end .ensures))
+returns c =
+    written-then
+    (c .before .before .before .before .before .before .before .before .before .before .before .before .before .before .before .before .before .before .bus-rows .ensures)
+    (written-then (c .before .before .before .before .before .before .before .before .before .before .before .branch-rows .ensures)
+    (c .before .before .before .before .objective-and-end .ensures))
 
 pub after-parts-spec : {M : Type 1} → statement M
 after-parts-spec =

@@ -40,14 +40,30 @@ curve-rows-requires c κs =
     (c .before .before .before .before .before .before .before .before .before .before .before .before .before .before .before .before .before .before .before .before .pre .0, room-then q r rest (second .ensures) (omega (arith, second .kept)) (omega (arith, second .kept)))
 
 same-length : tie.Need-same-length
-same-length c = omega (arith, c .before .before .before .before .before .before .before .before .before .before .before .before .before .before .before .before .before .before .angle-rows .kept, c .before .before .before .before .before .before .before .before .before .before .before .thermal-rows .kept, c .before .before .before .before .curve-rows .kept)
+same-length c =
+    omega (
+      arith,
+      c .before .before .before .before .before .before .before .before .before .before .before .before .before .before .before .before .before .before .angle-rows .kept,
+      c .before .before .before .before .before .before .before .before .before .before .before .thermal-rows .kept,
+      c .before .before .before .before .curve-rows .kept,
+    )
 
 same-length-2 : tie.Need-same-length-2
-same-length-2 c = omega (arith, c .before .before .before .before .before .before .before .before .before .before .before .before .before .before .before .before .before .before .angle-rows .kept, c .before .before .before .before .before .before .before .before .before .before .before .thermal-rows .kept, c .before .before .before .before .curve-rows .kept)
+same-length-2 c =
+    omega (
+      arith,
+      c .before .before .before .before .before .before .before .before .before .before .before .before .before .before .before .before .before .before .angle-rows .kept,
+      c .before .before .before .before .before .before .before .before .before .before .before .thermal-rows .kept,
+      c .before .before .before .before .curve-rows .kept,
+    )
 
 returns : tie.Need-returns
 unfolding branchRows
-returns c = written-then (c .before .before .before .before .before .before .before .before .before .before .before .before .before .before .before .before .before .before .angle-rows .ensures) (written-then (c .before .before .before .before .before .before .before .before .before .before .before .thermal-rows .ensures) (c .before .before .before .before .curve-rows .ensures))
+returns c =
+    written-then
+    (c .before .before .before .before .before .before .before .before .before .before .before .before .before .before .before .before .before .before .angle-rows .ensures)
+    (written-then (c .before .before .before .before .before .before .before .before .before .before .before .thermal-rows .ensures)
+    (c .before .before .before .before .curve-rows .ensures))
 
 pub branch-rows-spec : {M : Type 1} → statement M
 branch-rows-spec =

@@ -18,11 +18,12 @@ balances-requires c κs =
 reference-rows-requires : tie.Need-reference-rows-requires
 unfolding busRows
 reference-rows-requires c κs =
+    let pre = c .before .before .before .before .before .before .before .before .before .before .before .before .before .pre in
     let args = c .before .before .before .before .before .before .before .before .before .before .before .before .before .args in
     let b = balancesOf (args .words .now) (args .numbers .now) (args .layout .buses) in
     let r = each (args .layout .references) (referenceTokens (args .words .now)) in
     let first = c .before .before .before .before .before .before .balances in
-    (c .before .before .before .before .before .before .before .before .before .before .before .before .before .pre .0 .words, room-then b r (c .before .before .before .before .before .before .before .before .before .before .before .before .before .pre .1) (first .ensures) (omega (arith, first .kept)) (omega (arith, first .kept)))
+    (pre .0 .words, room-then b r (pre .1) (first .ensures) (omega (arith, first .kept)) (omega (arith, first .kept)))
 
 same-length : tie.Need-same-length
 same-length c = omega (arith, c .before .before .before .before .before .before .before .before .before .before .before .balances .kept, c .before .before .before .before .reference-rows .kept)

@@ -16,7 +16,7 @@ shared-parts-requires c κs =
     let vs = rowTokens ws xs (args .layout) in
     let words = words-at (pre .0) in
     let numbers = numbers-at (pre .0) in
-    (pre .0, room-shared us vs _ _ words numbers _ _ (pre .2) (pre .3) (few-words ws xs (pre .1)))
+    (pre .0, room-shared us vs _ _ words numbers _ _ (pre .2) (pre .3) (few-words (pre .0)))
 
 after-parts-requires : tie.Need-after-parts-requires
 after-parts-requires c κs =
@@ -29,7 +29,7 @@ after-parts-requires c κs =
     let words = words-at (pre .0) in
     let numbers = numbers-at (pre .0) in
     let parts = c .before .before .before .before .before .before .shared-parts in
-    let room = room-rows us vs _ _ words numbers (pre .2) (pre .3) (few-words ws xs (pre .1)) (parts .ensures) (omega (arith, parts .kept)) (omega (arith, parts .kept)) in
+    let room = room-rows us vs _ _ words numbers (pre .2) (pre .3) (few-words (pre .0)) (parts .ensures) (omega (arith, parts .kept)) (omega (arith, parts .kept)) in
     (pre .0, room)
 
 same-length : tie.Need-same-length

@@ -1,13 +1,12 @@
 use native.Mathlib.Omega.{arith}
 use borrow.Author.Needs.{needs}
 use Prim.Native.Nat.{_-_, _≤_}
-use mathlib.Core.Path.{_≡_, sym, ap}
+use mathlib.Core.Path.{_≡_, sym}
 use lib.ListN.{length}
 use Rattle.base.specs.Loop.{each}
-use Rattle.network.specs.declared.records.Generator.{Generator}
 use Rattle.network.specs.Layout.{Standing}
 use Rattle.network.specs.Network.{epigraphsBefore}
-use Rattle.factor.proofs.Steps.{epigraphs-none, epigraphs-turn}
+use Rattle.acopf.proofs.Tallied.{epigraphs-none, epigraphs-turn}
 use Rattle.writer.specs.contracts.Tokens.{Written}
 use Rattle.writer.proofs.Tokens.{turns-none, turns-step, turns-room}
 use Rattle.emit.specs.contracts.Objective.{costTokens}
@@ -73,42 +72,64 @@ add-pg c =
 
 cost-term-requires : tie.Need-cost-term-requires Inv-loop μ-loop
 cost-term-requires c κs =
+    let pre = c .before .before .before .before .before .before .before .before .before .before .before .before .pre in
+    let loop = c .before .before .before .before .before .before .loop in
     let args = c .before .before .before .before .before .before .before .before .before .before .before .before .args in
-    let few = c .before .before .before .before .before .before .before .before .before .before .before .before .pre .0 .words in
-    let inv = c .before .before .before .before .before .before .loop .inv in
+    let few = pre .0 .words in
+    let inv = loop .inv in
     let here = c .before .before .before .before .if1 .taken in
-    let same = cost-is (c .before .before .before .before .before .before .before .before .before .before .before .before .pre .0) (c .before .before .before .before .before .before .loop .cursor .index) (c .before .before .before .generator-of .ensures .is) (c .before .before .before .before .before .before .loop .inv .3) in
-    let room = turns-room (args .count) (costTokens (args .words .now) (args .numbers .now)) (c .before .before .before .before .before .before .loop .cursor .index) here (c .before .before .before .before .before .before .before .before .before .before .before .before .pre .2) (inv .5) (inv .0) (inv .1) in (
-      omega (arith, few .few-buses, few .few-generators, inv .4, here, c .before .before .before .before .before .before .before .before .before .before .before .before .pre .1),
-      omega (arith, few .few-buses, few .few-generators, here, c .before .before .before .before .before .before .before .before .before .before .before .before .pre .1),
+    let same = cost-is (pre .0) (loop .cursor .index) (c .before .before .before .generator-of .ensures .is) (inv .3) in
+    let room =
+    turns-room (args .count) (costTokens (args .words .now) (args .numbers .now)) (loop .cursor .index) here (pre .2) (inv .5) (inv .0) (inv .1) in (
+      omega (arith, few .few-buses, few .few-generators, inv .4, here, pre .1),
+      omega (arith, few .few-buses, few .few-generators, here, pre .1),
       rw same at room,
     )
 
 counted-requires : tie.Need-counted-requires Inv-loop μ-loop
 counted-requires c κs =
-    let few = c .before .before .before .before .before .before .before .before .before .before .before .before .before .before .before .before .before .pre .0 .words in
+    let pre = c .before .before .before .before .before .before .before .before .before .before .before .before .before .before .before .before .before .pre in
+    let few = pre .0 .words in
     let inv = c .before .before .before .before .before .before .before .before .before .before .before .loop .inv in
-    omega (arith, few .few-buses, few .few-generators, c .before .before .before .before .before .before .before .before .before .if1 .taken, inv .2 .within, inv .4, c .before .before .before .before .before .before .before .before .before .before .before .before .before .before .before .before .before .pre .1)
+    omega (
+      arith,
+      few .few-buses,
+      few .few-generators,
+      c .before .before .before .before .before .before .before .before .before .if1 .taken,
+      inv .2 .within,
+      inv .4,
+      pre .1,
+    )
 
 next-generator-requires : tie.Need-next-generator-requires Inv-loop μ-loop
-next-generator-requires c κs = (c .before .before .before .before .before .before .before .before .before .before .before .before .before .before .before .before .before .before .pre .0 .words, c .before .before .before .before .before .before .before .before .before .before .before .before .loop .inv .2, omega (arith, c .before .before .before .before .before .before .before .before .before .before .if1 .taken, c .before .before .before .before .before .before .before .before .before .before .before .before .before .before .before .before .before .before .pre .1))
+next-generator-requires c κs =
+    let pre = c .before .before .before .before .before .before .before .before .before .before .before .before .before .before .before .before .before .before .pre in (
+      pre .0 .words,
+      c .before .before .before .before .before .before .before .before .before .before .before .before .loop .inv .2,
+      omega (arith, c .before .before .before .before .before .before .before .before .before .before .if1 .taken, pre .1),
+    )
 
 loop-less : tie.Need-loop-less Inv-loop μ-loop
 loop-less c = omega (arith, c .next-generator .ensures .1, c .before .before .before .before .before .before .before .before .before .before .before .if1 .taken)
 
 loop-again : tie.Need-loop-again Inv-loop μ-loop
 loop-again c =
+    let loop = c .before .before .before .before .before .before .before .before .before .before .before .before .before .loop in
+    let read = c .before .before .before .before .before .before .before .before .before .before .generator-of .ensures in
+    let cost-term = c .before .before .before .before .before .before .cost-term in
     let args = c .before .before .before .before .before .before .before .before .before .before .before .before .before .before .before .before .before .before .before .args in
-    let inv = c .before .before .before .before .before .before .before .before .before .before .before .before .before .loop .inv in
-    let kept = c .before .before .before .before .before .before .cost-term .kept in
+    let inv = loop .inv in
+    let kept = cost-term .kept in
     let turn = c .next-generator .ensures in
-    let curved = ap (λ (r : Generator). r .curved) (c .before .before .before .before .before .before .before .before .before .before .generator-of .ensures .is) in
-    let same = cost-is (c .before .before .before .before .before .before .before .before .before .before .before .before .before .before .before .before .before .before .before .pre .0) (c .before .before .before .before .before .before .before .before .before .before .before .before .before .loop .cursor .index) (c .before .before .before .before .before .before .before .before .before .before .generator-of .ensures .is) (c .before .before .before .before .before .before .before .before .before .before .before .before .before .loop .inv .3) in
-    let step = turns-step (costTokens (args .words .now) (args .numbers .now)) (c .before .before .before .before .before .before .before .before .before .before .before .before .before .loop .cursor .index) (inv .5) (rw (← same) at (c .before .before .before .before .before .before .cost-term .ensures)) in (
+    let same =
+    cost-is
+    (c .before .before .before .before .before .before .before .before .before .before .before .before .before .before .before .before .before .before .before .pre .0)
+    (loop .cursor .index) (read .is) (inv .3) in
+    let step = turns-step (costTokens (args .words .now) (args .numbers .now)) (loop .cursor .index) (inv .5) (rw (← same) at (cost-term .ensures)) in (
       omega (arith, kept, inv .0),
       omega (arith, kept, inv .1),
       turn .0,
-      rw (turn .1) (epigraphs-turn (args .words .now) (c .before .before .before .before .before .before .before .before .before .before .before .before .before .loop .cursor .index) curved (c .before .counted .ensures .0) (inv .3)),
+      rw (turn .1) (epigraphs-turn read (c .before .counted .ensures .0) (inv .3)),
       omega (arith, turn .1, c .before .counted .ensures .1, inv .4),
       rw (turn .1) step,
       omega (arith, turn .1, c .before .before .before .before .before .before .before .before .before .before .before .if1 .taken),

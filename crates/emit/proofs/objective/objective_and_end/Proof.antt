@@ -62,10 +62,22 @@ put-requires c κs =
     (last .words, last .numbers, last .parts)
 
 same-length : tie.Need-same-length
-same-length c = omega (arith, c .before .before .before .before .before .before .before .before .before .before .before .before .before .before .before .before .before .before .before .before .objective-head .kept, c .before .before .before .before .before .before .before .before .before .before .before .before .before .cost-terms .kept, c .before .before .before .before .put .kept)
+same-length c =
+    omega (
+      arith,
+      c .before .before .before .before .before .before .before .before .before .before .before .before .before .before .before .before .before .before .before .before .objective-head .kept,
+      c .before .before .before .before .before .before .before .before .before .before .before .before .before .cost-terms .kept,
+      c .before .before .before .before .put .kept,
+    )
 
 same-length-2 : tie.Need-same-length-2
-same-length-2 c = omega (arith, c .before .before .before .before .before .before .before .before .before .before .before .before .before .before .before .before .before .before .before .before .objective-head .kept, c .before .before .before .before .before .before .before .before .before .before .before .before .before .cost-terms .kept, c .before .before .before .before .put .kept)
+same-length-2 c =
+    omega (
+      arith,
+      c .before .before .before .before .before .before .before .before .before .before .before .before .before .before .before .before .before .before .before .before .objective-head .kept,
+      c .before .before .before .before .before .before .before .before .before .before .before .before .before .cost-terms .kept,
+      c .before .before .before .before .put .kept,
+    )
 
 returns : tie.Need-returns
 unfolding objectiveTokens

@@ -29,7 +29,19 @@ same-length-2 : tie.Need-same-length-2
 same-length-2 c = search needs
 
 returns : tie.Need-returns
-returns c = let k = c .before .before .before .before .put .ensures in rw (c .before .before .before .before .before .before .before .before .before .before .before .before .if1 .taken) (record { words = rw (c .before .before .before .before .before .before .before .before .before .model-word .ensures, c .before .before .before .before .before .before .before .before .model-word2 .ensures, c .before .before .before .before .before .before .before .model-word3 .ensures) at (k .words); numbers = k .numbers; parts = k .parts })
+returns c =
+    let k = c .before .before .before .before .put .ensures in
+    rw (c .before .before .before .before .before .before .before .before .before .before .before .before .if1 .taken)
+    (record {
+      words = rw (
+        c .before .before .before .before .before .before .before .before .before .model-word .ensures,
+        c .before .before .before .before .before .before .before .before .model-word2 .ensures,
+        c .before .before .before .before .before .before .before .model-word3 .ensures,
+      )
+          at (k .words);
+      numbers = k .numbers;
+      parts = k .parts;
+    })
 
 returns-2 : tie.Need-returns-2
 returns-2 c = rw (c .if1 .left) (written-none _ _ _)

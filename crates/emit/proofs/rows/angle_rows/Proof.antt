@@ -42,12 +42,16 @@ branch-to-requires c κs = search needs
 
 angle-row-requires : tie.Need-angle-row-requires Inv-loop μ-loop
 angle-row-requires c κs =
+    let pre = c .before .before .before .before .before .before .before .before .before .before .before .pre in
+    let loop = c .before .before .before .before .before .before .before .loop in
+    let branch-from = c .before .before .before .branch-from in
+    let branch-to = c .before .before .branch-to in
     let args = c .before .before .before .before .before .before .before .before .before .before .before .args in
-    let inv = c .before .before .before .before .before .before .before .loop .inv in
+    let inv = loop .inv in
     let here = c .before .before .before .before .before .before .loop-test .taken in
-    let same = angle-is (c .before .before .before .before .before .before .before .before .before .before .before .pre .0) (c .before .before .before .before .before .before .before .loop .b) (c .before .before .before .branch-from .ensures) (c .before .before .branch-to .ensures) (c .before .before .before .before .branch-angled .ensures) in
-    let room = turns-room (args .layout .branches) (angleTokens (args .words .now)) (c .before .before .before .before .before .before .before .loop .b) here (c .before .before .before .before .before .before .before .before .before .before .before .pre .1) (inv .3) (inv .1) (inv .2) in
-    (rw (c .before .before .before .branch-from .ensures) (omega arith), rw (c .before .before .branch-to .ensures) (omega arith), rw same room)
+    let same = angle-is (pre .0) (loop .b) (branch-from .ensures) (branch-to .ensures) (c .before .before .before .before .branch-angled .ensures) in
+    let room = turns-room (args .layout .branches) (angleTokens (args .words .now)) (loop .b) here (pre .1) (inv .3) (inv .1) (inv .2) in
+    (rw (branch-from .ensures) (omega arith), rw (branch-to .ensures) (omega arith), rw same room)
 
 add-b : tie.Need-add-b Inv-loop μ-loop
 add-b c = search needs
@@ -57,11 +61,22 @@ loop-less c = search needs
 
 loop-again : tie.Need-loop-again Inv-loop μ-loop
 loop-again c =
+    let loop = c .before .before .before .before .before .before .before .before .before .before .before .before .loop in
+    let angle-row = c .before .before .before .before .angle-row in
     let args = c .before .before .before .before .before .before .before .before .before .before .before .before .before .before .before .before .args in
-    let inv = c .before .before .before .before .before .before .before .before .before .before .before .before .loop .inv in
-    let kept = c .before .before .before .before .angle-row .kept in
-    let same = angle-is (c .before .before .before .before .before .before .before .before .before .before .before .before .before .before .before .before .pre .0) (c .before .before .before .before .before .before .before .before .before .before .before .before .loop .b) (c .before .before .before .before .before .before .before .before .branch-from .ensures) (c .before .before .before .before .before .before .before .branch-to .ensures) (c .before .before .before .before .before .before .before .before .before .branch-angled .ensures) in
-    (search needs, omega (arith, kept, inv .1), omega (arith, kept, inv .2), turns-step (angleTokens (args .words .now)) (c .before .before .before .before .before .before .before .before .before .before .before .before .loop .b) (inv .3) (rw same at (c .before .before .before .before .angle-row .ensures)))
+    let inv = loop .inv in
+    let kept = angle-row .kept in
+    let same =
+    angle-is
+    (c .before .before .before .before .before .before .before .before .before .before .before .before .before .before .before .before .pre .0)
+    (loop .b) (c .before .before .before .before .before .before .before .before .branch-from .ensures)
+    (c .before .before .before .before .before .before .before .branch-to .ensures)
+    (c .before .before .before .before .before .before .before .before .before .branch-angled .ensures) in (
+      search needs,
+      omega (arith, kept, inv .1),
+      omega (arith, kept, inv .2),
+      turns-step (angleTokens (args .words .now)) (loop .b) (inv .3) (rw same at (angle-row .ensures)),
+    )
 
 same-length : tie.Need-same-length Inv-loop μ-loop
 same-length c = search needs

@@ -24,7 +24,17 @@ same-length-2 : tie.Need-same-length-2
 same-length-2 c = search needs
 
 returns : tie.Need-returns
-returns c = let k = c .before .before .before .before .put .ensures in record { words = rw (c .before .before .before .before .before .before .before .before .model-word .ensures, c .before .before .before .before .before .before .before .model-word2 .ensures) at (k .words); numbers = k .numbers; parts = k .parts }
+returns c =
+    let k = c .before .before .before .before .put .ensures in
+    record {
+      words = rw (
+        c .before .before .before .before .before .before .before .before .model-word .ensures,
+        c .before .before .before .before .before .before .before .model-word2 .ensures,
+      )
+          at (k .words);
+      numbers = k .numbers;
+      parts = k .parts;
+    }
 
 pub reference-row-spec : {M : Type 1} → statement M
 reference-row-spec =

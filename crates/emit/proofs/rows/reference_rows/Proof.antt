@@ -51,11 +51,19 @@ loop-less c = search needs
 
 loop-again : tie.Need-loop-again Inv-loop μ-loop
 loop-again c =
+    let loop = c .before .before .before .before .before .before .before .before .before .before .loop in
+    let reference-row = c .before .before .before .before .reference-row in
     let args = c .before .before .before .before .before .before .before .before .before .before .before .before .before .before .args in
-    let inv = c .before .before .before .before .before .before .before .before .before .before .loop .inv in
-    let kept = c .before .before .before .before .reference-row .kept in
-    let same = reference-is (c .before .before .before .before .before .before .before .before .before .before .before .before .before .before .pre .0) (c .before .before .before .before .before .before .before .before .before .before .loop .r) (c .before .before .before .before .before .before .before .reference-bus .ensures) in
-    (search needs, omega (arith, kept, inv .1), omega (arith, kept, inv .2), turns-step (referenceTokens (args .words .now)) (c .before .before .before .before .before .before .before .before .before .before .loop .r) (inv .3) (rw same at (c .before .before .before .before .reference-row .ensures)))
+    let inv = loop .inv in
+    let kept = reference-row .kept in
+    let same =
+    reference-is (c .before .before .before .before .before .before .before .before .before .before .before .before .before .before .pre .0)
+    (loop .r) (c .before .before .before .before .before .before .before .reference-bus .ensures) in (
+      search needs,
+      omega (arith, kept, inv .1),
+      omega (arith, kept, inv .2),
+      turns-step (referenceTokens (args .words .now)) (loop .r) (inv .3) (rw same at (reference-row .ensures)),
+    )
 
 same-length : tie.Need-same-length Inv-loop μ-loop
 same-length c = search needs

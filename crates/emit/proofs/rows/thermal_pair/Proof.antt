@@ -19,7 +19,13 @@ add-thermal-row-2 : tie.Need-add-thermal-row-2
 add-thermal-row-2 c = search needs
 
 thermal-row-requires : tie.Need-thermal-row-requires
-thermal-row-requires c κs = let room = rw (c .before .before .if1 .taken) at (c .before .before .before .before .before .pre .1) in (search needs, search needs, room-first (one (c .before .before .before .before .before .args .first + 4) (c .before .before .before .before .before .args .first + 5) (c .before .before .before .before .before .args .square)) (one (c .before .before .before .before .before .args .first + 6) (c .before .before .before .before .before .args .first + 7) (c .before .before .before .before .before .args .square)) room)
+thermal-row-requires c κs =
+    let args = c .before .before .before .before .before .args in
+    let room = rw (c .before .before .if1 .taken) at (c .before .before .before .before .before .pre .1) in (
+      search needs,
+      search needs,
+      room-first (one (args .first + 4) (args .first + 5) (args .square)) (one (args .first + 6) (args .first + 7) (args .square)) room,
+    )
 
 add-thermal-row-3 : tie.Need-add-thermal-row-3
 add-thermal-row-3 c = search needs
@@ -28,7 +34,17 @@ add-thermal-row-4 : tie.Need-add-thermal-row-4
 add-thermal-row-4 c = search needs
 
 thermal-row-requires-2 : tie.Need-thermal-row-requires-2
-thermal-row-requires-2 c κs = let room = rw (c .before .before .before .before .before .before .before .before .before .if1 .taken) at (c .before .before .before .before .before .before .before .before .before .before .before .before .pre .1) in (search needs, search needs, room-then (one (c .before .before .before .before .before .before .before .before .before .before .before .before .args .first + 4) (c .before .before .before .before .before .before .before .before .before .before .before .before .args .first + 5) (c .before .before .before .before .before .before .before .before .before .before .before .before .args .square)) (one (c .before .before .before .before .before .before .before .before .before .before .before .before .args .first + 6) (c .before .before .before .before .before .before .before .before .before .before .before .before .args .first + 7) (c .before .before .before .before .before .before .before .before .before .before .before .before .args .square)) room (c .before .before .before .before .before .before .thermal-row .ensures) (omega (arith, c .before .before .before .before .before .before .thermal-row .kept)) (omega (arith, c .before .before .before .before .before .before .thermal-row .kept)))
+thermal-row-requires-2 c κs =
+    let args = c .before .before .before .before .before .before .before .before .before .before .before .before .args in
+    let thermal-row = c .before .before .before .before .before .before .thermal-row in
+    let room =
+    rw (c .before .before .before .before .before .before .before .before .before .if1 .taken) at
+    (c .before .before .before .before .before .before .before .before .before .before .before .before .pre .1) in (
+      search needs,
+      search needs,
+      room-then (one (args .first + 4) (args .first + 5) (args .square)) (one (args .first + 6) (args .first + 7) (args .square)) room
+          (thermal-row .ensures) (omega (arith, thermal-row .kept)) (omega (arith, thermal-row .kept)),
+    )
 
 same-length : tie.Need-same-length
 same-length c = omega (arith, c .before .before .before .before .before .before .before .before .before .before .before .thermal-row .kept, c .before .before .before .before .thermal-row2 .kept)
@@ -37,7 +53,10 @@ same-length-2 : tie.Need-same-length-2
 same-length-2 c = omega (arith, c .before .before .before .before .before .before .before .before .before .before .before .thermal-row .kept, c .before .before .before .before .thermal-row2 .kept)
 
 returns : tie.Need-returns
-returns c = rw (c .before .before .before .before .before .before .before .before .before .before .before .before .before .before .if1 .taken) (written-then (c .before .before .before .before .before .before .before .before .before .before .before .thermal-row .ensures) (c .before .before .before .before .thermal-row2 .ensures))
+returns c =
+    rw (c .before .before .before .before .before .before .before .before .before .before .before .before .before .before .if1 .taken)
+    (written-then (c .before .before .before .before .before .before .before .before .before .before .before .thermal-row .ensures)
+    (c .before .before .before .before .thermal-row2 .ensures))
 
 returns-2 : tie.Need-returns-2
 returns-2 c = rw (c .if1 .left) (written-none _ _ _)

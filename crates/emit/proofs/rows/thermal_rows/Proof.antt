@@ -33,26 +33,46 @@ add-thermal-pair c = omega (arith, c .before .before .before .before .before .be
 
 thermal-pair-requires : tie.Need-thermal-pair-requires Inv-loop μ-loop
 thermal-pair-requires c κs =
+    let pre = c .before .before .before .before .before .before .before .before .before .before .pre in
+    let loop = c .before .before .before .before .before .loop in
+    let test = c .before .before .before .before .loop-test in
     let args = c .before .before .before .before .before .before .before .before .before .before .args in
-    let inv = c .before .before .before .before .before .loop .inv in
-    let here = c .before .before .before .before .loop-test .taken in
-    let same = thermal-is (c .before .before .before .before .before .before .before .before .before .before .pre .0) (c .before .before .before .before .before .loop .b) (c .before .before .before .branch-of .ensures .is) in
-    let room = turns-room (args .layout .branches) (thermalTokens (args .words .now) (args .numbers .now) (args .layout .buses)) (c .before .before .before .before .before .loop .b) here (c .before .before .before .before .before .before .before .before .before .before .pre .1) (inv .3) (inv .1) (inv .2) in
-    (omega (arith, c .before .before .before .before .before .before .before .before .before .before .pre .0 .words .few-buses, c .before .before .before .before .before .before .before .before .before .before .pre .0 .words .few-branches, c .before .before .before .before .loop-test .taken), rw same room)
+    let inv = loop .inv in
+    let here = test .taken in
+    let same = thermal-is (pre .0) (loop .b) (c .before .before .before .branch-of .ensures .is) in
+    let room =
+    turns-room (args .layout .branches) (thermalTokens (args .words .now) (args .numbers .now) (args .layout .buses)) (loop .b) here (pre .1)
+    (inv .3) (inv .1) (inv .2) in
+    (omega (arith, pre .0 .words .few-buses, pre .0 .words .few-branches, here), rw same room)
 
 add-b : tie.Need-add-b Inv-loop μ-loop
-add-b c = omega (arith, c .before .before .before .before .before .before .before .before .before .before .before .before .before .before .before .pre .0 .words .few-buses, c .before .before .before .before .before .before .before .before .before .before .before .before .before .before .before .pre .0 .words .few-branches, c .before .before .before .before .before .before .before .before .before .loop-test .taken)
+add-b c =
+    let pre = c .before .before .before .before .before .before .before .before .before .before .before .before .before .before .before .pre in
+    omega (
+      arith,
+      pre .0 .words .few-buses,
+      pre .0 .words .few-branches,
+      c .before .before .before .before .before .before .before .before .before .loop-test .taken,
+    )
 
 loop-less : tie.Need-loop-less Inv-loop μ-loop
 loop-less c = search needs
 
 loop-again : tie.Need-loop-again Inv-loop μ-loop
 loop-again c =
+    let loop = c .before .before .before .before .before .before .before .before .before .before .loop in
+    let thermal-pair = c .before .before .before .before .thermal-pair in
     let args = c .before .before .before .before .before .before .before .before .before .before .before .before .before .before .before .args in
-    let inv = c .before .before .before .before .before .before .before .before .before .before .loop .inv in
-    let kept = c .before .before .before .before .thermal-pair .kept in
-    let same = thermal-is (c .before .before .before .before .before .before .before .before .before .before .before .before .before .before .before .pre .0) (c .before .before .before .before .before .before .before .before .before .before .loop .b) (c .before .before .before .before .before .before .before .before .branch-of .ensures .is) in
-    (search needs, omega (arith, kept, inv .1), omega (arith, kept, inv .2), turns-step (thermalTokens (args .words .now) (args .numbers .now) (args .layout .buses)) (c .before .before .before .before .before .before .before .before .before .before .loop .b) (inv .3) (rw same at (c .before .before .before .before .thermal-pair .ensures)))
+    let inv = loop .inv in
+    let kept = thermal-pair .kept in
+    let same =
+    thermal-is (c .before .before .before .before .before .before .before .before .before .before .before .before .before .before .before .pre .0)
+    (loop .b) (c .before .before .before .before .before .before .before .before .branch-of .ensures .is) in (
+      search needs,
+      omega (arith, kept, inv .1),
+      omega (arith, kept, inv .2),
+      turns-step (thermalTokens (args .words .now) (args .numbers .now) (args .layout .buses)) (loop .b) (inv .3) (rw same at (thermal-pair .ensures)),
+    )
 
 same-length : tie.Need-same-length Inv-loop μ-loop
 same-length c = search needs

@@ -44,14 +44,16 @@ add-branch-parts c =
 branch-parts-requires : tie.Need-branch-parts-requires
 branch-parts-requires c κs =
     let pre = c .before .before .before .before .before .before .before .before .before .before .before .pre in
+    let branch-from = c .before .before .before .before .before .branch-from in
+    let branch-to = c .before .before .before .before .branch-to in
     let few = pre .0 .words in
-    let from = c .before .before .before .before .before .branch-from .ensures in
-    let to = c .before .before .before .before .branch-to .ensures in
-    let same = parts-as (pre .0) (c .before .before .before .before .before .before .before .before .before .before .before .args .b) (c .before .before .before .branch-of .ensures .is) from to (c .before .before .coefficients .ensures) in (
+    let same =
+    parts-as (pre .0) (c .before .before .before .before .before .before .before .before .before .before .before .args .b)
+    (c .before .before .before .branch-of .ensures .is) (branch-from .ensures) (branch-to .ensures) (c .before .before .coefficients .ensures) in (
       few .few-buses,
       omega (arith, few .few-buses, few .few-branches, pre .1),
-      rw from (omega arith),
-      rw to (omega arith),
+      rw (branch-from .ensures) (omega arith),
+      rw (branch-to .ensures) (omega arith),
       rw same at (pre .2),
     )
 
@@ -63,10 +65,14 @@ same-length-2 c = search needs
 
 returns : tie.Need-returns
 returns c =
-    let read = c .before .before .before .before .before .before .before .before .branch-of .ensures .is in
-    let from = c .before .before .before .before .before .before .before .before .before .before .branch-from .ensures in
-    let to = c .before .before .before .before .before .before .before .before .before .branch-to .ensures in
-    let same = parts-as (c .before .before .before .before .before .before .before .before .before .before .before .before .before .before .before .before .pre .0) (c .before .before .before .before .before .before .before .before .before .before .before .before .before .before .before .before .args .b) read from to (c .before .before .before .before .before .before .before .coefficients .ensures) in
+    let same =
+    parts-as
+    (c .before .before .before .before .before .before .before .before .before .before .before .before .before .before .before .before .pre .0)
+    (c .before .before .before .before .before .before .before .before .before .before .before .before .before .before .before .before .args .b)
+    (c .before .before .before .before .before .before .before .before .branch-of .ensures .is)
+    (c .before .before .before .before .before .before .before .before .before .before .branch-from .ensures)
+    (c .before .before .before .before .before .before .before .before .before .branch-to .ensures)
+    (c .before .before .before .before .before .before .before .coefficients .ensures) in
     rw same (c .before .before .before .before .branch-parts .ensures)
 
 pub branch-flow-spec : {M : Type 1} → statement M

@@ -28,10 +28,15 @@ loop-holds c = (search needs, search needs, search needs, turns-none _ _ _ _)
 
 branch-flow-requires : tie.Need-branch-flow-requires Inv-loop μ-loop
 branch-flow-requires c κs =
+    let pre = c .before .before .before .before .before .before .before .before .pre in
+    let loop = c .before .before .before .loop in
     let args = c .before .before .before .before .before .before .before .before .args in
-    let inv = c .before .before .before .loop .inv in
-    let here = c .before .before .loop-test .taken in
-    (c .before .before .before .before .before .before .before .before .pre .0, here, turns-room (args .layout .branches) (one (args .words .now) (args .numbers .now)) (c .before .before .before .loop .b) here (c .before .before .before .before .before .before .before .before .pre .1) (inv .3) (inv .1) (inv .2))
+    let inv = loop .inv in
+    let here = c .before .before .loop-test .taken in (
+      pre .0,
+      here,
+      turns-room (args .layout .branches) (one (args .words .now) (args .numbers .now)) (loop .b) here (pre .1) (inv .3) (inv .1) (inv .2),
+    )
 
 add-b : tie.Need-add-b Inv-loop μ-loop
 add-b c = omega (arith, c .before .before .before .before .before .before .before .before .before .before .before .before .before .pre .0 .words .few-branches, c .before .before .before .before .before .before .before .loop-test .taken)

@@ -50,13 +50,29 @@ flow-parts-requires-2 : tie.Need-flow-parts-requires-2
 flow-parts-requires-2 c κs = search needs
 
 same-length : tie.Need-same-length
-same-length c = omega (arith, c .before .before .before .before .before .before .before .before .before .before .before .before .before .before .before .before .before .before .voltage-parts .kept, c .before .before .before .before .before .before .before .before .before .before .before .flow-parts .kept, c .before .before .before .before .flow-parts2 .kept)
+same-length c =
+    omega (
+      arith,
+      c .before .before .before .before .before .before .before .before .before .before .before .before .before .before .before .before .before .before .voltage-parts .kept,
+      c .before .before .before .before .before .before .before .before .before .before .before .flow-parts .kept,
+      c .before .before .before .before .flow-parts2 .kept,
+    )
 
 same-length-2 : tie.Need-same-length-2
-same-length-2 c = omega (arith, c .before .before .before .before .before .before .before .before .before .before .before .before .before .before .before .before .before .before .voltage-parts .kept, c .before .before .before .before .before .before .before .before .before .before .before .flow-parts .kept, c .before .before .before .before .flow-parts2 .kept)
+same-length-2 c =
+    omega (
+      arith,
+      c .before .before .before .before .before .before .before .before .before .before .before .before .before .before .before .before .before .before .voltage-parts .kept,
+      c .before .before .before .before .before .before .before .before .before .before .before .flow-parts .kept,
+      c .before .before .before .before .flow-parts2 .kept,
+    )
 
 returns : tie.Need-returns
-returns c = written-then (c .before .before .before .before .before .before .before .before .before .before .before .before .before .before .before .before .before .before .voltage-parts .ensures) (written-then (c .before .before .before .before .before .before .before .before .before .before .before .flow-parts .ensures) (c .before .before .before .before .flow-parts2 .ensures))
+returns c =
+    written-then
+    (c .before .before .before .before .before .before .before .before .before .before .before .before .before .before .before .before .before .before .voltage-parts .ensures)
+    (written-then (c .before .before .before .before .before .before .before .before .before .before .before .flow-parts .ensures)
+    (c .before .before .before .before .flow-parts2 .ensures))
 
 pub branch-parts-spec : {M : Type 1} → statement M
 branch-parts-spec =

@@ -57,7 +57,26 @@ same-length-2 : tie.Need-same-length-2
 same-length-2 c = search needs
 
 returns : tie.Need-returns
-returns c = let e : c .before .before .before .before .before .before .before .before .before .before .before .before .before .before .before .before .before .before .before .args .writer .constant + 2 ≡ c .before .before .before .before .before .before .before .before .before .before .before .before .before .before .before .before .before .before .before .args .writer .constant + 1 + 1 = omega arith in let k = c .before .before .before .before .put .ensures in record { words = rw (c .before .before .before .before .before .before .before .before .before .before .before .before .before .before .model-word .ensures, c .before .before .before .before .before .before .before .before .before .before .before .before .before .model-word2 .ensures, c .before .before .before .before .before .before .before .before .before .before .before .before .model-word3 .ensures, c .before .before .before .before .before .before .before .before .before .before .before .model-word4 .ensures, c .before .before .before .before .before .before .before .before .before .before .model-word5 .ensures, c .before .before .before .before .before .before .before .before .before .model-word6 .ensures, c .before .before .before .before .before .before .before .before .model-word7 .ensures, c .before .before .before .before .before .before .before .model-word8 .ensures, e) at (k .words); numbers = k .numbers; parts = k .parts }
+returns c =
+    let args = c .before .before .before .before .before .before .before .before .before .before .before .before .before .before .before .before .before .before .before .args in
+    let e : args .writer .constant + 2 ≡ args .writer .constant + 1 + 1 = omega arith in
+    let k = c .before .before .before .before .put .ensures in
+    record {
+      words = rw (
+        c .before .before .before .before .before .before .before .before .before .before .before .before .before .before .model-word .ensures,
+        c .before .before .before .before .before .before .before .before .before .before .before .before .before .model-word2 .ensures,
+        c .before .before .before .before .before .before .before .before .before .before .before .before .model-word3 .ensures,
+        c .before .before .before .before .before .before .before .before .before .before .before .model-word4 .ensures,
+        c .before .before .before .before .before .before .before .before .before .before .model-word5 .ensures,
+        c .before .before .before .before .before .before .before .before .before .model-word6 .ensures,
+        c .before .before .before .before .before .before .before .before .model-word7 .ensures,
+        c .before .before .before .before .before .before .before .model-word8 .ensures,
+        e,
+      )
+          at (k .words);
+      numbers = k .numbers;
+      parts = k .parts;
+    }
 
 pub flow-part-spec : {M : Type 1} → statement M
 flow-part-spec =

@@ -34,7 +34,13 @@ array-read-flow-part-6 : tie.Need-array-read-flow-part-6
 array-read-flow-part-6 c = search needs
 
 flow-part-requires-2 : tie.Need-flow-part-requires-2
-flow-part-requires-2 c κs = (c .before .before .before .before .before .before .before .before .before .before .before .pre .0, c .before .before .before .before .before .before .before .before .before .before .before .pre .1, room-then (one _ _ _ _ _) (one _ _ _ _ _) (c .before .before .before .before .before .before .before .before .before .before .before .pre .2) (c .before .before .before .before .before .before .flow-part .ensures) (omega (arith, c .before .before .before .before .before .before .flow-part .kept)) (omega (arith, c .before .before .before .before .before .before .flow-part .kept)))
+flow-part-requires-2 c κs =
+    let pre = c .before .before .before .before .before .before .before .before .before .before .before .pre in
+    let flow-part = c .before .before .before .before .before .before .flow-part in (
+      pre .0,
+      pre .1,
+      room-then (one _ _ _ _ _) (one _ _ _ _ _) (pre .2) (flow-part .ensures) (omega (arith, flow-part .kept)) (omega (arith, flow-part .kept)),
+    )
 
 same-length : tie.Need-same-length
 same-length c = omega (arith, c .before .before .before .before .before .before .before .before .before .before .before .flow-part .kept, c .before .before .before .before .flow-part2 .kept)

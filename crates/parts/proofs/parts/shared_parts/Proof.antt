@@ -29,11 +29,12 @@ vm-squared-requires c κs =
 branch-flows-requires : tie.Need-branch-flows-requires
 unfolding sharedTokens
 branch-flows-requires c κs =
+    let pre = c .before .before .before .before .before .before .before .before .before .before .before .before .before .pre in
     let args = c .before .before .before .before .before .before .before .before .before .before .before .before .before .args in
     let squares = S (args .layout .buses) in
     let flows = B (args .words .now) (args .numbers .now) (args .layout .branches) in
     let first = c .before .before .before .before .before .before .vm-squared in
-    (c .before .before .before .before .before .before .before .before .before .before .before .before .before .pre .0, room-then squares flows (c .before .before .before .before .before .before .before .before .before .before .before .before .before .pre .1) (first .ensures) (omega (arith, first .kept)) (omega (arith, first .kept)))
+    (pre .0, room-then squares flows (pre .1) (first .ensures) (omega (arith, first .kept)) (omega (arith, first .kept)))
 
 same-length : tie.Need-same-length
 same-length c = omega (arith, c .before .before .before .before .before .before .before .before .before .before .before .vm-squared .kept, c .before .before .before .before .branch-flows .kept)

@@ -29,7 +29,12 @@ add-square-part : tie.Need-add-square-part Inv-loop μ-loop
 add-square-part c = search needs
 
 square-part-requires : tie.Need-square-part-requires Inv-loop μ-loop
-square-part-requires c κs = (search needs, turns-room _ (one (c .before .before .before .before .before .before .args .n)) (c .before .before .before .loop .i) (search needs) (c .before .before .before .before .before .before .pre .1) (c .before .before .before .loop .inv .3) (c .before .before .before .loop .inv .1) (c .before .before .before .loop .inv .2))
+square-part-requires c κs =
+    let loop = c .before .before .before .loop in (
+      search needs,
+      turns-room _ (one (c .before .before .before .before .before .before .args .n)) (loop .i) (search needs)
+          (c .before .before .before .before .before .before .pre .1) (loop .inv .3) (loop .inv .1) (loop .inv .2),
+    )
 
 add-i : tie.Need-add-i Inv-loop μ-loop
 add-i c = search needs
@@ -38,7 +43,15 @@ loop-less : tie.Need-loop-less Inv-loop μ-loop
 loop-less c = search needs
 
 loop-again : tie.Need-loop-again Inv-loop μ-loop
-loop-again c = (search needs, omega (arith, c .before .before .before .before .square-part .kept, c .before .before .before .before .before .before .before .before .loop .inv .1), omega (arith, c .before .before .before .before .square-part .kept, c .before .before .before .before .before .before .before .before .loop .inv .2), turns-step (one (c .before .before .before .before .before .before .before .before .before .before .before .args .n)) (c .before .before .before .before .before .before .before .before .loop .i) (c .before .before .before .before .before .before .before .before .loop .inv .3) (c .before .before .before .before .square-part .ensures))
+loop-again c =
+    let loop = c .before .before .before .before .before .before .before .before .loop in
+    let square-part = c .before .before .before .before .square-part in (
+      search needs,
+      omega (arith, square-part .kept, loop .inv .1),
+      omega (arith, square-part .kept, loop .inv .2),
+      turns-step (one (c .before .before .before .before .before .before .before .before .before .before .before .args .n)) (loop .i) (loop .inv .3)
+          (square-part .ensures),
+    )
 
 same-length : tie.Need-same-length Inv-loop μ-loop
 same-length c = search needs

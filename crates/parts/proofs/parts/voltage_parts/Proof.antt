@@ -6,10 +6,24 @@ use Rattle.parts.proofs.parts.voltage_parts.Statement.{statement}
 use Rattle.parts.proofs.parts.voltage_parts.Tie as tie
 
 angle-parts-requires : tie.Need-angle-parts-requires
-angle-parts-requires c κs = (c .before .before .before .before .pre .0, c .before .before .before .before .pre .2, c .before .before .before .before .pre .3, room-first (partTokens 10 (angleParts (c .before .before .before .before .args .n) (c .before .before .before .before .args .from) (c .before .before .before .before .args .to))) (partTokens 10 (productParts (c .before .before .before .before .args .first))) (c .before .before .before .before .pre .4))
+angle-parts-requires c κs =
+    let args = c .before .before .before .before .args in
+    let pre = c .before .before .before .before .pre in (
+      pre .0,
+      pre .2,
+      pre .3,
+      room-first (partTokens 10 (angleParts (args .n) (args .from) (args .to))) (partTokens 10 (productParts (args .first))) (pre .4),
+    )
 
 product-parts-requires : tie.Need-product-parts-requires
-product-parts-requires c κs = (c .before .before .before .before .before .before .before .before .before .before .before .pre .1, room-then (partTokens 10 (angleParts (c .before .before .before .before .before .before .before .before .before .before .before .args .n) (c .before .before .before .before .before .before .before .before .before .before .before .args .from) (c .before .before .before .before .before .before .before .before .before .before .before .args .to))) (partTokens 10 (productParts (c .before .before .before .before .before .before .before .before .before .before .before .args .first))) (c .before .before .before .before .before .before .before .before .before .before .before .pre .4) (c .before .before .before .before .before .before .angle-parts .ensures) (omega (arith, c .before .before .before .before .before .before .angle-parts .kept)) (omega (arith, c .before .before .before .before .before .before .angle-parts .kept)))
+product-parts-requires c κs =
+    let args = c .before .before .before .before .before .before .before .before .before .before .before .args in
+    let pre = c .before .before .before .before .before .before .before .before .before .before .before .pre in
+    let angle-parts = c .before .before .before .before .before .before .angle-parts in (
+      pre .1,
+      room-then (partTokens 10 (angleParts (args .n) (args .from) (args .to))) (partTokens 10 (productParts (args .first))) (pre .4)
+          (angle-parts .ensures) (omega (arith, angle-parts .kept)) (omega (arith, angle-parts .kept)),
+    )
 
 same-length : tie.Need-same-length
 same-length c = omega (arith, c .before .before .before .before .before .before .before .before .before .before .before .angle-parts .kept, c .before .before .before .before .product-parts .kept)
