@@ -16,7 +16,7 @@ use Rattle.fdlibm.specs.Hypot.{scaled, middle, small, endless, ordered, hypoten
 use Rattle.nl.specs.Expr.{loadFor, words, wordsOf, constants, constantsOf}
 use Rattle.nl.specs.File.{partWords, modelWords, modelConstants}
 use Rattle.nl.specs.Reader.{wordOk, arity, uses, readHead, readExpr, isMark, readParts, readLast, readEnd}
-use Rattle.nl.specs.Finder.{findAfter, find, findRow, rowWords}
+use Rattle.nl.specs.Finder.{findAfter, find, rowWords}
 use Rattle.network.specs.Word.{loadRight}
 use Rattle.network.specs.Network.{kindBefore, buses, generators, branches, references, generatorAt, branchAt, needed, epigraphsBefore, columns}
 use Rattle.bounds.specs.Bounds.{swing64, huge64, finiteOr, clampStart, boundsRight, angleRight, positiveViolation}
@@ -89,7 +89,7 @@ answers ws xs x solver number place objective residuals =
 
 unfoldable finds : List ℕ → ℕ → ℕ → ℕ → ℕ → ℕ → List ℕ → Bool
 finds file constants columns r number place part =
-    let f = findRow file constants columns r in
+    let f = find file constants columns r .fault in
     eqb (f .number) number && eqb (f .place) place && sameList (rowWords file constants columns r) part
 
 -- ---- Depot M
@@ -201,7 +201,7 @@ cases =
     ∷ []
 
 all-right : T (all cases)
-unfolding loop table each tally unless orElse first isFinite absolute maximum kernelSin kernelCos remPio2 nearPositive nearNegative signed firstIteration secondIteration noCancellation cosine sine sinReduced cosReduced bitByBit normalized squareRoot scaled middle small endless ordered hypotenuse loadFor words wordsOf constants constantsOf partWords modelWords modelConstants wordOk arity uses readHead readExpr isMark readParts readLast readEnd findAfter find findRow rowWords loadRight kindBefore buses generators branches references generatorAt branchAt needed epigraphsBefore columns finiteOr clampStart boundsRight angleRight positiveViolation wordRight faultWords faultSize blanks faultCount faultBlank faultCurve faultShift faultBounds faultSpread faultRating faultSquare branchFault faultBranches faultTables slope intercept evaluate coefficientsOf flowAt flowOf flow vmLower vmUpper pgLower pgUpper qgLower qgUpper vaStart vmStart pgStart qgStart epigraphStart columnLower columnUpper columnStart branchParts sharedParts balanceRow pBalanceModel qBalanceModel thermalRows segmentRow segmentRows rows rowLower rowUpper costTerm objective objectiveConstant model fileWords firstNonFinite constants64 faultFactor networkFault lengths faultShort compileFault refused accepted compiled injected withdrawn pInjection qInjection cost ownObjective flows outputs largest largestWhere pBalanceCheck qBalanceCheck activeBalance reactiveBalance thermalLimits variableBounds referenceAngles angleLimits epigraphs objectiveDifference residuals tolerances solved faultOutput faultPoint faultSwing faultDerived faultResidual faultOf checkFault checked add sub mul div neg ofBits toBits toUnsigned ofInt round lt le eq ne d all sameList compiles prints starts compileRefuses answers finds cases wordAt bitsAt formed inputWords inputNumbers hexLine hexLines decimalWithin refusedLine networkText output
+unfolding loop table each tally unless orElse first isFinite absolute maximum kernelSin kernelCos remPio2 nearPositive nearNegative signed firstIteration secondIteration noCancellation cosine sine sinReduced cosReduced bitByBit normalized squareRoot scaled middle small endless ordered hypotenuse loadFor words wordsOf constants constantsOf partWords modelWords modelConstants wordOk arity uses readHead readExpr isMark readParts readLast readEnd findAfter find rowWords loadRight kindBefore buses generators branches references generatorAt branchAt needed epigraphsBefore columns finiteOr clampStart boundsRight angleRight positiveViolation wordRight faultWords faultSize blanks faultCount faultBlank faultCurve faultShift faultBounds faultSpread faultRating faultSquare branchFault faultBranches faultTables slope intercept evaluate coefficientsOf flowAt flowOf flow vmLower vmUpper pgLower pgUpper qgLower qgUpper vaStart vmStart pgStart qgStart epigraphStart columnLower columnUpper columnStart branchParts sharedParts balanceRow pBalanceModel qBalanceModel thermalRows segmentRow segmentRows rows rowLower rowUpper costTerm objective objectiveConstant model fileWords firstNonFinite constants64 faultFactor networkFault lengths faultShort compileFault refused accepted compiled injected withdrawn pInjection qInjection cost ownObjective flows outputs largest largestWhere pBalanceCheck qBalanceCheck activeBalance reactiveBalance thermalLimits variableBounds referenceAngles angleLimits epigraphs objectiveDifference residuals tolerances solved faultOutput faultPoint faultSwing faultDerived faultResidual faultOf checkFault checked add sub mul div neg ofBits toBits toUnsigned ofInt round lt le eq ne d all sameList compiles prints starts compileRefuses answers finds cases wordAt bitsAt formed inputWords inputNumbers hexLine hexLines decimalWithin refusedLine networkText output
 all-right = tt
 
 -- the constants that the definitions name by their bits are 0, 0.5, 1, 1024, 1e19 and 1e-6

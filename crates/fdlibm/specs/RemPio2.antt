@@ -1,7 +1,7 @@
 -- fdlibm 5.3's e_rem_pio2.c: x less the nearest multiple of pi/2, as y0 + y1, and n & 3, all that sine and cosine use of the multiple n.
 -- It is fdlibm's up to |x| = 2^19*pi/2, about 823,550. Past that fdlibm calls __kernel_rem_pio2, with its table of 2/pi; here the
 -- medium case goes on, so that the answer is defined and is not fdlibm's.
-use Prim.Native.Nat.{ℕ, _+_, _-_, _*_, _/_, _%_, _^_}
+use Prim.Native.Nat.{ℕ, _+_, _-_, _/_, _%_, _^_}
 use mathlib.Core.Bool.{Bool, cond, not, _&&_}
 use mathlib.Core.List.{List, [], _∷_}
 use lib.Dec.{ltb, leb, eqb}

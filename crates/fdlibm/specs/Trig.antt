@@ -1,6 +1,5 @@
 -- fdlibm 5.3's s_sin.c and s_cos.c.
-use Prim.Native.Nat.{ℕ}
-use mathlib.Core.Bool.{Bool, true, false, cond}
+use mathlib.Core.Bool.{true, false, cond}
 use lib.Dec.{leb, eqb}
 use lib.Ieee.{Float, neg}
 use Rattle.float.specs.Number.{_⊖_, zero64}

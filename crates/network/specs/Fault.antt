@@ -1,6 +1,6 @@
 -- Document 01, "Numbers a controller shows": refusals 1 to 3 of a network, its form, each with its place.
 use Prim.Native.Nat.{ℕ, _-_}
-use mathlib.Core.Bool.{Bool, cond, not, _&&_}
+use mathlib.Core.Bool.{Bool, cond, _&&_}
 use mathlib.Core.List.{List}
 use lib.ListN.{length, getD}
 use lib.Dec.{eqb, leb}
@@ -12,7 +12,7 @@ use Rattle.base.specs.Refusal.{WORDS, SIZE, COUNT}
 use Rattle.network.specs.Limits.{mostBuses, mostGenerators, mostBranches, mostReferences, mostPoints}
 use Rattle.network.specs.Word.{loadRight}
 use Rattle.network.specs.Network.{kindBefore, buses, generators, branches, references}
-use Rattle.network.specs.Network.{busPlace, generatorPlace, branchPlace, referencePlace, points, needed, number}
+use Rattle.network.specs.Network.{busPlace, generatorPlace, branchPlace, referencePlace, points, needed}
 
 module _ (ws : List ℕ) where
   -- the first word is a header and no other is, kinds do not fall, and the load is right

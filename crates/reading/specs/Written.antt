@@ -1,4 +1,5 @@
--- Document 01: "A network is accepted when compile refuses nothing; its file is then the front parts that compile's counts name, and the column count."
+-- Document 01: "A network is accepted when compile refuses nothing; its file is then the front parts that compile's counts name, and the
+-- column count."
 use Prim.Native.Nat.{ℕ}
 use mathlib.Core.List.{List, map}
 use lib.ListN.{take}
@@ -19,4 +20,5 @@ module _ (ws : List ℕ) (xs : List Float) (lent : List ℕ) where
 -- the front parts of the lists l that the counts of the answer c name, and its column count, are read as the network's model
 abbrev pub FileReads : Compiled → Lists → List ℕ → List Float → Type 0
 FileReads c l ws xs =
-    ReadsAs (take (c .words) (l .words)) (map (toBits binary64) (take (c .constants) (l .constants))) (c .constants) (c .columns) (c .rows) ws xs
+    ReadsAs (take (c .words) (l .words)) (map (toBits binary64) (take (c .constants) (l .constants)))
+    (c .constants) (c .columns) (c .rows) ws xs

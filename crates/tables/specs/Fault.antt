@@ -1,5 +1,5 @@
 -- Document 01, "Numbers a controller shows": refusals 4 to 10 of a network, each with its place, and the order of 1 to 10.
-use Prim.Native.Nat.{ℕ, _+_, _-_, _*_}
+use Prim.Native.Nat.{ℕ, _+_, _*_}
 use mathlib.Core.Bool.{not, _||_}
 use mathlib.Core.List.{List, [], _∷_}
 use lib.Ieee.{Float, lt}
