@@ -10,9 +10,11 @@ use Rattle.base.specs.Loop.{table, keep}
 use Rattle.base.specs.contracts.Section.{Wrote}
 use Rattle.base.proofs.Loops.{length-keep, length-kept}
 use Rattle.base.proofs.Sections.{then, wrote-front, table-value, each-next, each-fits}
+use Rattle.float.specs.Number.{zero64}
 use Rattle.bounds.specs.Bounds.{huge64}
 use Rattle.network.specs.Network.{buses, generators, curved, epigraphsBefore, columns}
 use Rattle.network.specs.declared.layout.Layout.{Layout}
+use Rattle.network.specs.declared.records.Bus.{Bus}
 use Rattle.network.specs.declared.records.Generator.{Generator}
 use Rattle.network.specs.Layout.{Laid, GeneratorRead, generatorRecord}
 use Rattle.acopf.specs.Columns.{vmLower, vmUpper, pgLower, pgUpper, qgLower, qgUpper, vaStart, vmStart, pgStart, qgStart, epigraphStart}
@@ -22,7 +24,7 @@ use Rattle.acopf.specs.declared.tallies.Tallies.{Tallies}
 use Rattle.acopf.proofs.Counts.{lower-columns, upper-columns, start-columns}
 use Rattle.columns.specs.declared.ColumnList.{ColumnList}
 use Rattle.columns.specs.declared.ColumnList.the-variants.{Lower, Upper, Start}
-use Rattle.columns.specs.contracts.Value.{epigraphValue, vaStarts, epigraphStarts, vmColumns, generatorColumns, boundedColumns}
+use Rattle.columns.specs.contracts.Value.{columnValue, vmValue, epigraphValue, vaStarts, epigraphStarts, vmColumns, generatorColumns, boundedColumns}
 
 -- ---- room
 
@@ -34,7 +36,11 @@ module _ {ws : List ℕ} {xs : List Float} {l : Layout} (L : Laid ws xs l) where
   pub epigraphs-are : {t : Tallies} → Tallied ws xs t → t .epigraphs ≡ epigraphsBefore ws (l .generators)
   epigraphs-are T = rw (L .words .is) (T .of-epigraphs)
 
--- ---- one turn over the epigraphs
+-- ---- one turn over the buses and the epigraphs
+
+pub vm-turn : (list : ColumnList) {r bus : Bus} {v lower upper : Float} → r ≡ bus → v ≡ columnValue list (r .vm) lower upper
+    → lower ≡ cond (r .bounded) (r .«vm_min») zero64 → upper ≡ cond (r .bounded) (r .«vm_max») huge64 → v ≡ vmValue list bus
+vm-turn list e v lower upper = v ∙ rw (lower, upper, e)
 
 module _ {ws : List ℕ} {xs : List Float} {l : Layout} {g : ℕ} {r : Generator} (G : GeneratorRead ws xs l g r) where
   -- the starts of all epigraphs have room for the next one

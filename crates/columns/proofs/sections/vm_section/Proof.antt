@@ -6,6 +6,7 @@ use Rattle.base.specs.contracts.Section.{Wrote}
 use Rattle.base.proofs.Sections.{table-none, table-next}
 use Rattle.network.specs.Layout.{busRecord}
 use Rattle.columns.specs.contracts.Value.{vmValue, vmColumns}
+use Rattle.columns.proofs.Front.{vm-turn}
 use borrow.Author.Needs.{needs}
 use Rattle.columns.proofs.sections.vm_section.Statement.{statement}
 use Rattle.columns.proofs.sections.vm_section.Tie as tie
@@ -51,12 +52,8 @@ loop-again : tie.Need-loop-again Inv-loop μ-loop
 loop-again c =
     let args = c .before .before .before .before .before .before .before .before .before .before .args in
     let loop = c .before .before .before .before .before .before .loop in
-    let read = c .before .before .before .bus-of .ensures in (
-      omega arith,
-      search needs,
-      table-next (λ j. vmValue (args .list) (busRecord (args .words .now) (args .numbers .now) j)) _
-          (rw (c .column-value .ensures, c .before .before .vm-lower .ensures, c .before .vm-upper .ensures, read)) (loop .inv .2),
-    )
+    let value = vm-turn (args .list) (c .before .before .before .bus-of .ensures) (c .column-value .ensures) (c .before .before .vm-lower .ensures) (c .before .vm-upper .ensures) in
+    (omega arith, search needs, table-next (λ j. vmValue (args .list) (busRecord (args .words .now) (args .numbers .now) j)) _ value (loop .inv .2))
 
 add-result : tie.Need-add-result Inv-loop μ-loop
 add-result c = search needs
