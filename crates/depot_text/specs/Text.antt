@@ -55,7 +55,8 @@ networkText ws xs =
 unfoldable pub output : List ℕ → List ℕ
 output bytes = cond (formed bytes) (networkText (inputWords bytes) (inputNumbers bytes)) inputLine
 
--- what a lent text list then holds, and how many of its bytes are the text: a list too short for all of it is left as it was, and the count is 0
+-- what a lent text list then holds, and how many of its bytes are the text: a list too short for all of it is left as it was, and the
+-- count is 0
 abbrev pub textAfter : List ℕ → List ℕ → List ℕ
 textAfter bytes before = cond (leb (length (output bytes)) (length before)) (output bytes ++ drop (length (output bytes)) before) before
 

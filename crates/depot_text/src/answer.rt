@@ -18,8 +18,8 @@ ghost use Rattle.base.specs.contracts.Section.{Wrote};
 // compile with lists of 512 each, of which the words are the caller's.
 fn compile_words(words: &[u32], numbers: &[f64], model_words: &mut [u32]) -> Compiled
     requires { ⌜ length (now «model_words») ≡ 512 ⌝ }
-    ensures { λ r. ⌜ (r ≡ compiled (now (words .entry)) (now (numbers .entry)) lent)
-        × (now («model_words» .exit) ≡ wordsAfter (now (words .entry)) (now (numbers .entry)) lent (now («model_words» .entry))) ⌝ }
+    ensures { λ r. ⌜ (let ws = now (words .entry) in let xs = now (numbers .entry) in
+        (r ≡ compiled ws xs lent) × (now («model_words» .exit) ≡ wordsAfter ws xs lent (now («model_words» .entry)))) ⌝ }
 {
     let mut constants = [0.0; 512];
     let mut column_lower = [0.0; 512];
@@ -43,7 +43,8 @@ fn compile_words(words: &[u32], numbers: &[f64], model_words: &mut [u32]) -> Com
 // The model words of a network, or its refusal.
 fn put_network(words: &[u32], numbers: &[f64], text: &mut [u8]) -> usize
     requires { ⌜ 4608 ≤ length (now text) ⌝ }
-    ensures { λ r. ⌜ (Wrote (now (text .entry)) 0 (networkText (now (words .entry)) (now (numbers .entry))) (now (text .exit)) r) × (r ≤ 4608) ⌝ }
+    ensures { λ r. ⌜ (Wrote (now (text .entry)) 0 (networkText (now (words .entry)) (now (numbers .entry))) (now (text .exit)) r)
+        × (r ≤ 4608) ⌝ }
 {
     let mut model_words = [0u32; 512];
     let answer = compile_words(words, numbers, &mut model_words);
@@ -70,7 +71,8 @@ fn put_output(input: &[u8], text: &mut [u8]) -> usize
 // Puts the text for this input into the list's front, and answers how many bytes it has. A list too short for all of it is left as it
 // was, and the answer is 0; 4,608 bytes are always enough.
 pub fn depot(input: &[u8], text: &mut [u8]) -> usize
-    ensures { λ r. ⌜ (r ≡ textLength (now (input .entry)) (now (text .entry))) × (now (text .exit) ≡ textAfter (now (input .entry)) (now (text .entry))) × (Counts r (now (text .exit))) ⌝ }
+    ensures { λ r. ⌜ (r ≡ textLength (now (input .entry)) (now (text .entry)))
+        × (now (text .exit) ≡ textAfter (now (input .entry)) (now (text .entry))) × (Counts r (now (text .exit))) ⌝ }
 {
     let mut space = [0u8; 4608];
     let n = put_output(input, &mut space);

@@ -1,6 +1,5 @@
 // Writers of the text: each answers the place after what it wrote.
 ghost use mathlib.Core.Path.{_≡_};
-ghost use mathlib.Core.List.{[], _∷_};
 ghost use Prim.Native.Nat.{_+_, _*_, _%_, _≤_, _<_};
 ghost use lib.ListN.{length, take};
 ghost use Rattle.depot_text.specs.Text.{hexDigit, hexLine, hexLines, decimal, refusedLine};
@@ -45,7 +44,8 @@ fn hex_line(w: u32) -> [u8; 9]
 // The first `count` words, a line each.
 pub(crate) fn put_hex_lines(text: &mut [u8], words: &[u32], count: usize) -> usize
     requires { ⌜ (count ≤ length (now words)) × (9 * count ≤ length (now text)) ⌝ }
-    ensures { λ r. ⌜ (Wrote (now (text .entry)) 0 (hexLines (take count (now (words .entry)))) (now (text .exit)) r) × (r ≡ 9 * count) ⌝ }
+    ensures { λ r. ⌜ (Wrote (now (text .entry)) 0 (hexLines (take count (now (words .entry)))) (now (text .exit)) r)
+        × (r ≡ 9 * count) ⌝ }
 {
     let mut at = 0usize;
     let mut i = 0usize;

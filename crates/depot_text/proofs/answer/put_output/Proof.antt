@@ -22,19 +22,28 @@ same-length : tie.Need-same-length
 same-length c = search needs
 
 returns : tie.Need-returns
-returns c = (rw (output-none (c .before .before .before .before .before .before .before .before .before .args .input .now) (c .before .before .before .before .before .before .formed .result) (c .before .before .before .before .before .before .formed .ensures) (not-true _ (c .before .before .before .before .before .if1 .taken))) at (c .before .before .put .ensures), omega (arith, c .before .before .put .ensures .follows))
+returns c =
+    let formed = c .before .before .before .before .before .before .formed in
+    let put = c .before .before .put .ensures in
+    let none = output-none (c .before .before .before .before .before .before .before .before .before .args .input .now) (formed .result) (formed .ensures) (not-true _ (c .before .before .before .before .before .if1 .taken)) in
+    (rw none at put, omega (arith, put .follows))
 
 slice-aggregate-read-words : tie.Need-slice-aggregate-read-words
 slice-aggregate-read-words c = search needs
 
 read-words-requires : tie.Need-read-words-requires
-read-words-requires c κs = let f : formed (c .before .before .before .before .before .args .input .now) ≡ true = sym (c .before .before .formed .ensures) ∙ not-false _ (c .before .if1 .left) in (f, omega arith)
+read-words-requires c κs =
+    let f : formed (c .before .before .before .before .before .args .input .now) ≡ true = sym (c .before .before .formed .ensures) ∙ not-false _ (c .before .if1 .left) in
+    (f, omega arith)
 
 slice-aggregate-read-numbers : tie.Need-slice-aggregate-read-numbers
 slice-aggregate-read-numbers c = search needs
 
 read-numbers-requires : tie.Need-read-numbers-requires
-read-numbers-requires c κs = let f : formed (c .before .before .before .before .before .before .before .before .args .input .now) ≡ true = sym (c .before .before .before .before .before .formed .ensures) ∙ not-false _ (c .before .before .before .before .if1 .left) in (f, omega arith)
+read-numbers-requires c κs =
+    let input = c .before .before .before .before .before .before .before .before .args .input .now in
+    let f : formed input ≡ true = sym (c .before .before .before .before .before .formed .ensures) ∙ not-false _ (c .before .before .before .before .if1 .left) in
+    (f, omega arith)
 
 array-share-prefix-words : tie.Need-array-share-prefix-words
 array-share-prefix-words c = c .before .before .before .before .read-words .ensures .1
@@ -55,7 +64,14 @@ same-length-2 : tie.Need-same-length-2
 same-length-2 c = search needs
 
 returns-2 : tie.Need-returns-2
-returns-2 c = (rw (output-some (c .before .before .before .before .before .before .before .before .before .before .before .before .before .before .before .before .args .input .now) (c .before .before .before .before .before .before .before .before .before .before .before .before .before .formed .result) (c .before .before .before .before .before .before .before .before .before .before .before .before .before .formed .ensures) _ _ (not-false _ (c .before .before .before .before .before .before .before .before .before .before .before .before .if1 .left)) (c .before .before .before .before .before .before .before .before .before .before .read-words .ensures .0) (c .before .before .before .before .before .before .before .read-numbers .ensures .0)) at (c .before .before .put-network .ensures .0), c .before .before .put-network .ensures .1)
+returns-2 c =
+    let input = c .before .before .before .before .before .before .before .before .before .before .before .before .before .before .before .before .args .input .now in
+    let formed = c .before .before .before .before .before .before .before .before .before .before .before .before .before .formed in
+    let right = not-false _ (c .before .before .before .before .before .before .before .before .before .before .before .before .if1 .left) in
+    let words = c .before .before .before .before .before .before .before .before .before .before .read-words .ensures .0 in
+    let numbers = c .before .before .before .before .before .before .before .read-numbers .ensures .0 in
+    let put = c .before .before .put-network .ensures in
+    (rw (output-some input (formed .result) (formed .ensures) _ _ right words numbers) at (put .0), put .1)
 
 pub put-output-spec : {M : Type 1} → statement M
 put-output-spec =

@@ -29,7 +29,13 @@ add-result-2 : tie.Need-add-result-2
 add-result-2 c = search needs
 
 returns-3 : tie.Need-returns-3
-returns-3 c = formed-by (c .before .before .before .before .before .args .bytes .now) (c .before .count-at .result) (c .count-at2 .result) (omega (arith, c .before .before .before .if1 .left)) (omega (arith, c .before .before .if2 .left)) (c .before .count-at .ensures .0) (c .count-at2 .ensures .0)
+returns-3 c =
+    let bytes = c .before .before .before .before .before .args .bytes .now in
+    let words = c .before .count-at in
+    let numbers = c .count-at2 in
+    let above = c .before .before .before .if1 .left in
+    let below = c .before .before .if2 .left in
+    formed-by bytes (words .result) (numbers .result) (omega (arith, above)) (omega (arith, below)) (words .ensures .0) (numbers .ensures .0)
 
 pub formed-spec : {M : Type 1} → statement M
 formed-spec =

@@ -14,7 +14,9 @@ use Rattle.depot_text.proofs.input.read_numbers.Statement.{statement}
 use Rattle.depot_text.proofs.input.read_numbers.Tie as tie
 
 abbrev Inv-loop : tie.InvT-loop
-Inv-loop bytes numbers₀ first count i₀ numbers i = (i ≤ count) × (count ≡ numberCount bytes) × (first ≡ 8 + 4 * wordCount bytes) × (first + 8 * count ≤ length bytes) × (count ≤ length numbers₀) × (length numbers ≡ length numbers₀) × Wrote numbers₀ 0 (table i (λ j. numberAt bytes (first + 8 * j))) numbers i
+Inv-loop bytes numbers₀ first count i₀ numbers i =
+    (i ≤ count) × (count ≡ numberCount bytes) × (first ≡ 8 + 4 * wordCount bytes) × (first + 8 * count ≤ length bytes)
+    × (count ≤ length numbers₀) × (length numbers ≡ length numbers₀) × Wrote numbers₀ 0 (table i (λ j. numberAt bytes (first + 8 * j))) numbers i
 
 abbrev μ-loop : tie.MeasureT-loop
 μ-loop bytes numbers₀ first count i₀ numbers i = count - i
@@ -32,7 +34,19 @@ count-at-requires-2 : tie.Need-count-at-requires-2 Inv-loop μ-loop
 count-at-requires-2 c κs = omega (arith, formed-is (c .before .before .before .args .bytes .now) (c .before .before .before .pre .0) .below)
 
 loop-holds : tie.Need-loop-holds Inv-loop μ-loop
-loop-holds c = let g = formed-is (c .before .before .before .before .args .bytes .now) (c .before .before .before .before .pre .0) in (omega arith, c .count-at2 .ensures .0, omega (arith, c .before .count-at .ensures .0), omega (arith, g .needed, c .before .count-at .ensures .0, c .count-at2 .ensures .0), omega (arith, g .needed, g .above, c .count-at2 .ensures .0, c .before .before .before .before .pre .1), refl, table-none _ _)
+loop-holds c =
+    let pre = c .before .before .before .before .pre in
+    let words = c .before .count-at .ensures .0 in
+    let count = c .count-at2 .ensures .0 in
+    let g = formed-is (c .before .before .before .before .args .bytes .now) (pre .0) in (
+      omega arith,
+      count,
+      omega (arith, words),
+      omega (arith, g .needed, words, count),
+      omega (arith, g .needed, g .above, count, pre .1),
+      refl,
+      table-none _ _,
+    )
 
 mul-number-at : tie.Need-mul-number-at Inv-loop μ-loop
 mul-number-at c = search needs
@@ -56,14 +70,24 @@ loop-less : tie.Need-loop-less Inv-loop μ-loop
 loop-less c = search needs
 
 loop-again : tie.Need-loop-again Inv-loop μ-loop
-loop-again c = (omega arith, c .before .before .loop .inv .1, c .before .before .loop .inv .2, c .before .before .loop .inv .3, c .before .before .loop .inv .4, simp length-set (omega arith), table-step _ _ (c .number-at .ensures) (c .before .before .loop .inv .6))
+loop-again c =
+    let inv = c .before .before .loop .inv in
+    (omega arith, inv .1, inv .2, inv .3, inv .4, simp length-set (omega arith), table-step _ _ (c .number-at .ensures) (inv .6))
 
 same-length : tie.Need-same-length Inv-loop μ-loop
 same-length c = search needs
 
 returns : tie.Need-returns Inv-loop μ-loop
 unfolding inputNumbers
-returns c = let e : c .before .loop .i ≡ numberCount (c .before .before .before .before .before .before .args .bytes .now) = omega (arith, c .before .loop .inv .1) in let q : c .before .before .count-at2 .result ≡ c .before .loop .i = omega arith in (rw (q, ← e, ← c .before .loop .inv .2) (wrote-take (c .before .loop .inv .6) (omega (arith, length-table (c .before .loop .i) (λ j. numberAt (c .before .before .before .before .before .before .args .bytes .now) (8 + 4 * c .before .before .before .count-at .result + 8 * j)), c .before .loop .inv .4))), omega (arith, c .before .loop .inv))
+returns c =
+    let bytes = c .before .before .before .before .before .before .args .bytes .now in
+    let words = c .before .before .before .count-at .result in
+    let i = c .before .loop .i in
+    let inv = c .before .loop .inv in
+    let e : i ≡ numberCount bytes = omega (arith, inv .1) in
+    let q : c .before .before .count-at2 .result ≡ i = omega arith in
+    let count = length-table i (λ j. numberAt bytes (8 + 4 * words + 8 * j)) in
+    (rw (q, ← e, ← inv .2) (wrote-take (inv .6) (omega (arith, count, inv .4))), omega (arith, inv))
 
 pub read-numbers-spec : {M : Type 1} → statement M
 read-numbers-spec =

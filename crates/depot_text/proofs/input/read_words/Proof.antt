@@ -14,7 +14,9 @@ use Rattle.depot_text.proofs.input.read_words.Statement.{statement}
 use Rattle.depot_text.proofs.input.read_words.Tie as tie
 
 abbrev Inv-loop : tie.InvT-loop
-Inv-loop bytes words₀ count i₀ words i = (i ≤ count) × (count ≡ wordCount bytes) × (8 + 4 * count ≤ length bytes) × (count ≤ length words₀) × (length words ≡ length words₀) × Wrote words₀ 0 (table i (λ j. wordAt bytes (8 + 4 * j))) words i
+Inv-loop bytes words₀ count i₀ words i =
+    (i ≤ count) × (count ≡ wordCount bytes) × (8 + 4 * count ≤ length bytes) × (count ≤ length words₀) × (length words ≡ length words₀)
+    × Wrote words₀ 0 (table i (λ j. wordAt bytes (8 + 4 * j))) words i
 
 abbrev μ-loop : tie.MeasureT-loop
 μ-loop bytes words₀ count i₀ words i = count - i
@@ -23,7 +25,17 @@ count-at-requires : tie.Need-count-at-requires Inv-loop μ-loop
 count-at-requires c κs = omega (arith, formed-is (c .before .before .args .bytes .now) (c .before .before .pre .0) .below)
 
 loop-holds : tie.Need-loop-holds Inv-loop μ-loop
-loop-holds c = let g = formed-is (c .before .before .before .args .bytes .now) (c .before .before .before .pre .0) in (omega arith, c .count-at .ensures .0, omega (arith, g .needed, c .count-at .ensures .0), omega (arith, g .needed, g .above, c .count-at .ensures .0, c .before .before .before .pre .1), refl, table-none _ _)
+loop-holds c =
+    let pre = c .before .before .before .pre in
+    let count = c .count-at .ensures .0 in
+    let g = formed-is (c .before .before .before .args .bytes .now) (pre .0) in (
+      omega arith,
+      count,
+      omega (arith, g .needed, count),
+      omega (arith, g .needed, g .above, count, pre .1),
+      refl,
+      table-none _ _,
+    )
 
 mul-word-at : tie.Need-mul-word-at Inv-loop μ-loop
 mul-word-at c = search needs
@@ -47,14 +59,23 @@ loop-less : tie.Need-loop-less Inv-loop μ-loop
 loop-less c = search needs
 
 loop-again : tie.Need-loop-again Inv-loop μ-loop
-loop-again c = (omega arith, c .before .before .loop .inv .1, c .before .before .loop .inv .2, c .before .before .loop .inv .3, simp length-set (omega arith), table-step _ _ (c .word-at .ensures) (c .before .before .loop .inv .5))
+loop-again c =
+    let inv = c .before .before .loop .inv in
+    (omega arith, inv .1, inv .2, inv .3, simp length-set (omega arith), table-step _ _ (c .word-at .ensures) (inv .5))
 
 same-length : tie.Need-same-length Inv-loop μ-loop
 same-length c = search needs
 
 returns : tie.Need-returns Inv-loop μ-loop
 unfolding inputWords
-returns c = let e : c .before .loop .i ≡ wordCount (c .before .before .before .before .before .args .bytes .now) = omega (arith, c .before .loop .inv .1) in let q : c .before .before .count-at .result ≡ c .before .loop .i = omega arith in (rw (q, ← e) (wrote-take (c .before .loop .inv .5) (omega (arith, length-table (c .before .loop .i) (λ j. wordAt (c .before .before .before .before .before .args .bytes .now) (8 + 4 * j)), c .before .loop .inv .3))), omega (arith, c .before .loop .inv))
+returns c =
+    let bytes = c .before .before .before .before .before .args .bytes .now in
+    let i = c .before .loop .i in
+    let inv = c .before .loop .inv in
+    let e : i ≡ wordCount bytes = omega (arith, inv .1) in
+    let q : c .before .before .count-at .result ≡ i = omega arith in
+    let count = length-table i (λ j. wordAt bytes (8 + 4 * j)) in
+    (rw (q, ← e) (wrote-take (inv .5) (omega (arith, count, inv .3))), omega (arith, inv))
 
 pub read-words-spec : {M : Type 1} → statement M
 read-words-spec =

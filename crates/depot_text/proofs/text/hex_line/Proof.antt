@@ -29,7 +29,17 @@ hex-digit-requires-8 c κs = search needs
 
 returns : tie.Need-returns
 unfolding hexLine
-returns c = rw (c .before .before .before .before .before .before .before .hex-digit .ensures, c .before .before .before .before .before .before .hex-digit2 .ensures, c .before .before .before .before .before .hex-digit3 .ensures, c .before .before .before .before .hex-digit4 .ensures, c .before .before .before .hex-digit5 .ensures, c .before .before .hex-digit6 .ensures, c .before .hex-digit7 .ensures, c .hex-digit8 .ensures)
+returns c =
+    rw (
+      c .before .before .before .before .before .before .before .hex-digit .ensures,
+      c .before .before .before .before .before .before .hex-digit2 .ensures,
+      c .before .before .before .before .before .hex-digit3 .ensures,
+      c .before .before .before .before .hex-digit4 .ensures,
+      c .before .before .before .hex-digit5 .ensures,
+      c .before .before .hex-digit6 .ensures,
+      c .before .hex-digit7 .ensures,
+      c .hex-digit8 .ensures,
+    )
 
 pub hex-line-spec : {M : Type 1} → statement M
 hex-line-spec =

@@ -16,13 +16,28 @@ slice-aggregate-put : tie.Need-slice-aggregate-put
 slice-aggregate-put c = search needs
 
 put-requires : tie.Need-put-requires
-put-requires c κs = let few = few-digits (c .before .before .before .before .before .args .n) (c .before .before .decimal .result) (omega (arith, c .before .before .before .before .before .good, c .before .before .before .before .before .fits)) (c .before .before .decimal .ensures .1 .0) in omega (arith, few, c .before .before .before .before .before .pre, c .before .before .decimal .ensures .0 .1)
+put-requires c κs =
+    let n = c .before .before .before .before .before .args .n in
+    let good = c .before .before .before .before .before .good in
+    let fits = c .before .before .before .before .before .fits in
+    let decimal = c .before .before .decimal in
+    let few = few-digits n (decimal .result) (omega (arith, good, fits)) (decimal .ensures .1 .0) in
+    omega (arith, few, c .before .before .before .before .before .pre, decimal .ensures .0 .1)
 
 same-length : tie.Need-same-length
 same-length c = search needs
 
 returns : tie.Need-returns
-returns c = let few = few-digits (c .before .before .before .before .before .before .before .before .args .n) (c .before .before .before .before .before .decimal .result) (omega (arith, c .before .before .before .before .before .before .before .before .good, c .before .before .before .before .before .before .before .before .fits)) (c .before .before .before .before .before .decimal .ensures .1 .0) in let e = c .before .before .before .before .before .decimal .ensures .1 .1 ∙ digits-decimal (c .before .before .before .before .before .decimal .result) (c .before .before .before .before .before .before .before .before .args .n) few (c .before .before .before .before .before .decimal .ensures .1 .0) in (rw e at (c .before .before .put .ensures), omega (arith, few, c .before .before .put .ensures .follows, c .before .before .before .before .before .decimal .ensures .0 .1))
+returns c =
+    let n = c .before .before .before .before .before .before .before .before .args .n in
+    let good = c .before .before .before .before .before .before .before .before .good in
+    let fits = c .before .before .before .before .before .before .before .before .fits in
+    let decimal = c .before .before .before .before .before .decimal in
+    let value = decimal .ensures .1 .0 in
+    let few = few-digits n (decimal .result) (omega (arith, good, fits)) value in
+    let e = decimal .ensures .1 .1 ∙ digits-decimal (decimal .result) n few value in
+    let put = c .before .before .put in
+    (rw e at (put .ensures), omega (arith, few, put .ensures .follows, decimal .ensures .0 .1))
 
 pub put-decimal-spec : {M : Type 1} → statement M
 put-decimal-spec =

@@ -12,7 +12,9 @@ use Rattle.depot_text.proofs.text.put_hex_lines.Statement.{statement}
 use Rattle.depot_text.proofs.text.put_hex_lines.Tie as tie
 
 abbrev Inv-loop : tie.InvT-loop
-Inv-loop text₀ words count at₀ i₀ text at i = (i ≤ count) × (at ≡ 9 * i) × (count ≤ length words) × (9 * count ≤ length text₀) × (length text ≡ length text₀) × Wrote text₀ 0 (each i (λ j. hexLine (getD words j 0))) text at
+Inv-loop text₀ words count at₀ i₀ text at i =
+    (i ≤ count) × (at ≡ 9 * i) × (count ≤ length words) × (9 * count ≤ length text₀) × (length text ≡ length text₀)
+    × Wrote text₀ 0 (each i (λ j. hexLine (getD words j 0))) text at
 
 abbrev μ-loop : tie.MeasureT-loop
 μ-loop text₀ words count at₀ i₀ text at i = count - i
@@ -30,10 +32,19 @@ hex-line-requires : tie.Need-hex-line-requires Inv-loop μ-loop
 hex-line-requires c κs = search needs
 
 slice-aggregate-put : tie.Need-slice-aggregate-put Inv-loop μ-loop
-slice-aggregate-put c = let e : length (c .before .before .hex-line .result) ≡ 9 = ap length (c .before .before .hex-line .ensures) ∙ length-line (getD (c .before .before .before .before .before .before .before .before .args .words .now) (c .before .before .before .before .before .loop .i) 0) in omega (arith, e)
+slice-aggregate-put c =
+    let line = c .before .before .hex-line in
+    let word = getD (c .before .before .before .before .before .before .before .before .args .words .now) (c .before .before .before .before .before .loop .i) 0 in
+    let e : length (line .result) ≡ 9 = ap length (line .ensures) ∙ length-line word in
+    omega (arith, e)
 
 put-requires : tie.Need-put-requires Inv-loop μ-loop
-put-requires c κs = let e : length (c .before .before .hex-line .result) ≡ 9 = ap length (c .before .before .hex-line .ensures) ∙ length-line (getD (c .before .before .before .before .before .before .before .before .args .words .now) (c .before .before .before .before .before .loop .i) 0) in omega (arith, e, c .before .before .before .before .before .loop .inv)
+put-requires c κs =
+    let line = c .before .before .hex-line in
+    let loop = c .before .before .before .before .before .loop in
+    let word = getD (c .before .before .before .before .before .before .before .before .args .words .now) (loop .i) 0 in
+    let e : length (line .result) ≡ 9 = ap length (line .ensures) ∙ length-line word in
+    omega (arith, e, loop .inv)
 
 add-i : tie.Need-add-i Inv-loop μ-loop
 add-i c = search needs
@@ -42,13 +53,31 @@ loop-less : tie.Need-loop-less Inv-loop μ-loop
 loop-less c = search needs
 
 loop-again : tie.Need-loop-again Inv-loop μ-loop
-loop-again c = let e : length (c .before .before .before .before .before .hex-line .result) ≡ 9 = ap length (c .before .before .before .before .before .hex-line .ensures) ∙ length-line (getD (c .before .before .before .before .before .before .before .before .before .before .before .args .words .now) (c .before .before .before .before .before .before .before .before .loop .i) 0) in (omega arith, omega (arith, e, c .before .before .put .ensures .follows, c .before .before .before .before .before .before .before .before .loop .inv .1), c .before .before .before .before .before .before .before .before .loop .inv .2, c .before .before .before .before .before .before .before .before .loop .inv .3, omega (arith, c .before .before .put .kept .0, c .before .before .before .before .before .before .before .before .loop .inv .4), each-step _ (c .before .before .before .before .before .before .before .before .loop .i) _ (c .before .before .before .before .before .hex-line .ensures) (c .before .before .before .before .before .before .before .before .loop .inv .5) (c .before .before .put .ensures))
+loop-again c =
+    let line = c .before .before .before .before .before .hex-line in
+    let put = c .before .before .put in
+    let loop = c .before .before .before .before .before .before .before .before .loop in
+    let inv = loop .inv in
+    let word = getD (c .before .before .before .before .before .before .before .before .before .before .before .args .words .now) (loop .i) 0 in
+    let e : length (line .result) ≡ 9 = ap length (line .ensures) ∙ length-line word in (
+      omega arith,
+      omega (arith, e, put .ensures .follows, inv .1),
+      inv .2,
+      inv .3,
+      omega (arith, put .kept .0, inv .4),
+      each-step _ (loop .i) _ (line .ensures) (inv .5) (put .ensures),
+    )
 
 same-length : tie.Need-same-length Inv-loop μ-loop
 same-length c = search needs
 
 returns : tie.Need-returns Inv-loop μ-loop
-returns c = let n : c .before .loop .i ≡ c .before .before .before .before .args .count = omega arith in (rw (sym (lines-take (c .before .before .before .before .args .count) (c .before .before .before .before .args .words .now) (c .before .before .before .before .pre .0))) (rw n at (c .before .loop .inv .5)), omega (arith, n, c .before .loop .inv .1))
+returns c =
+    let args = c .before .before .before .before .args in
+    let loop = c .before .loop in
+    let n : loop .i ≡ args .count = omega arith in
+    let lines = lines-take (args .count) (args .words .now) (c .before .before .before .before .pre .0) in
+    (rw (sym lines) (rw n at (loop .inv .5)), omega (arith, n, loop .inv .1))
 
 pub put-hex-lines-spec : {M : Type 1} → statement M
 put-hex-lines-spec =

@@ -34,7 +34,15 @@ same-length c = search needs
 
 returns : tie.Need-returns
 unfolding refusedLine
-returns c = (then (then (then (then (c .before .before .before .before .before .before .before .before .before .before .before .before .before .before .before .before .before .before .before .before .put .ensures) (c .before .before .before .before .before .before .before .before .before .before .before .before .before .before .before .before .put-decimal .ensures .0)) (c .before .before .before .before .before .before .before .before .before .before .before .put2 .ensures)) (c .before .before .before .before .before .before .before .put-decimal2 .ensures .0)) (c .before .before .put3 .ensures), omega (arith, c .before .before .before .before .before .before .before .before .before .before .before .before .before .before .before .before .before .before .before .before .put .ensures .follows, c .before .before .before .before .before .before .before .before .before .before .before .before .before .before .before .before .put-decimal .ensures .1, c .before .before .before .before .before .before .before .before .before .before .before .put2 .ensures .follows, c .before .before .before .before .before .before .before .put-decimal2 .ensures .1, c .before .before .put3 .ensures .follows))
+returns c =
+    let word = c .before .before .before .before .before .before .before .before .before .before .before .before .before .before .before .before .before .before .before .before .put .ensures in
+    let number = c .before .before .before .before .before .before .before .before .before .before .before .before .before .before .before .before .put-decimal .ensures in
+    let space = c .before .before .before .before .before .before .before .before .before .before .before .put2 .ensures in
+    let place = c .before .before .before .before .before .before .before .put-decimal2 .ensures in
+    let end = c .before .before .put3 .ensures in (
+      then (then (then (then word (number .0)) space) (place .0)) end,
+      omega (arith, word .follows, number .1, space .follows, place .1, end .follows),
+    )
 
 pub put-refused-spec : {M : Type 1} → statement M
 put-refused-spec =
