@@ -136,9 +136,8 @@ module _ (ws : List ℕ) (xs : List Float) where
   pub told : (lent : List ℕ) → compiled ws xs lent .number ≡ 0 → compiled ws xs lent ≡ sized ws xs
   unfolding compiled refused
   told lent e =
-      let clear-network = ap (λ f. f .number) (compiled-exactly lent .0 e .0) in
       answered (λ c. c ≡ accepted ws xs) (eqb (compileFault ws xs lent .number) 0) _ _ refl (eqb-false (compileFault ws xs lent .number) 0) e
-      ∙ sized-accepted ws xs refl refl clear-network
+      ∙ sized-accepted ws xs (compiled-exactly lent .0 e .0) refl
 
   -- a file has at least its last word
   pub words-some : 0 < length (fileWords ws xs)
@@ -156,7 +155,7 @@ module _ (ws : List ℕ) (xs : List Float) where
   pub words-exactly : (sized ws xs .words ≡ 0) ↔ ¬ (networkFault ws xs ≡ clear)
   unfolding accepted refused
   words-exactly = (
-    λ e k. let z : length (fileWords ws xs) ≡ 0 = ap (λ c. c .words) (sized-accepted ws xs refl refl (ap (λ f. f .number) k)) ∙ e in
+    λ e k. let z : length (fileWords ws xs) ≡ 0 = ap (λ c. c .words) (sized-accepted ws xs k refl) ∙ e in
         omega (arith, z, words-some),
     λ n. sym (ap (λ c. c .words) (sized-refused ws xs refl refl (λ c. n (network-proper ws xs c)))),
   )

@@ -1,133 +1,110 @@
 -- The counts are those of the lists: each is a sum over what the network has.
 use mathlib.Core.Path.{_≡_, ap, _∙_}
 use mathlib.Core.List.{List}
-use mathlib.Core.Bool.{Bool, cond, not, _&&_}
-use Prim.Native.Nat.{ℕ, _+_, _-_, _*_, _≤_, _<_}
+use mathlib.Core.Bool.{cond, not, _&&_}
+use Prim.Native.Nat.{ℕ, _+_, _-_, _*_, _≤_}
 use native.Mathlib.Omega.{arith}
 use lib.Dec.{eqb, ltb}
 use lib.ListN.{length}
 use lib.Ieee.{Float}
-use Rattle.base.proofs.Firsts.{Clear, or-left}
+use Rattle.base.proofs.Firsts.{Clear}
 use Rattle.base.proofs.Loops.{bit}
-use Rattle.network.specs.Fault.{faultWords}
+use Rattle.network.specs.declared.layout.Layout.{Layout}
+use Rattle.network.specs.Layout.{Laid}
+use Rattle.network.specs.Limits.{mostBuses, mostGenerators, mostBranches, mostReferences, mostPoints}
+use Rattle.network.specs.Network.{buses, generators, branches, references, columns}
 use Rattle.tables.specs.Fault.{faultTables}
-use Rattle.base.specs.Loop.{tally}
-use Rattle.network.specs.Network.{buses, generators, branches, references, costs, columns, generatorAt, epigraphsBefore}
-use Rattle.tables.proofs.Laid.{good}
-use Rattle.acopf.specs.Rows.{rated as isRated}
+use Rattle.tables.proofs.Right.{words-clear}
+use Rattle.acopf.specs.declared.tallies.Tallies.{Tallies}
+use Rattle.acopf.specs.Tallies.{Tallied}
 use Rattle.acopf.specs.Model.{objectiveConstant, fileWords}
 use Rattle.acopf.specs.Parts.{sharedParts}
 use Rattle.acopf.specs.Rows.{rows}
 use Rattle.acopf.specs.Factor.{constants64}
 use Rattle.acopf.proofs.Counts.{length-shared}
-use Rattle.factor.specs.NonFinite.{segmentsBefore}
-use Rattle.rows.proofs.Steps.{start-is, start-at}
-use Rattle.factor.proofs.Sizes.{spreads, objectiveConstants, objectiveWords, count-rows, count-of-constants, count-of-words}
+use Rattle.acopf.proofs.Tallied.{few}
+use Rattle.factor.proofs.Sizes.{objectiveConstants, objectiveWords, count-rows, count-of-constants, count-of-words}
 use Rattle.compile.specs.declared.Compiled.{Compiled}
-use Rattle.compile.specs.declared.decide.Tallies.{Tallies}
 use Rattle.compile.specs.Compile.{accepted}
-use Rattle.compile.specs.contracts.Tallies.{Tallied, Few}
 
--- ---- what the network has
+module _ {ws : List ℕ} {xs : List Float} {l : Layout} (L : Laid ws xs l) where
+  n-is : l .buses ≡ buses ws
+  n-is = ap (λ x. x .buses) (L .words .is)
 
--- the bounds that its counting loops ask for
-pub record Bounds (ws : List ℕ) (xs : List Float) (n k m : ℕ) : Type 0 where
-  pub few-buses : n ≤ 256
-  pub few-generators : k ≤ 256
-  pub few-branches : m ≤ 512
-  pub some-word : 0 < length ws
-  pub generator-words : 1 + n + k ≤ length ws
-  pub branch-words : 1 + n + k + m ≤ length ws
-  pub branch-numbers : 11 * m ≤ length xs
-  pub start : length xs - 11 * m ≡ generatorAt ws k
+  k-is : l .generators ≡ generators ws
+  k-is = ap (λ x. x .generators) (L .words .is)
 
-module _ (ws : List ℕ) (xs : List Float) (right : Clear (faultTables ws xs)) where
-  pub bounds : {n k m : ℕ} → n ≡ buses ws → k ≡ generators ws → m ≡ branches ws → Bounds ws xs n k m
-  bounds e f g =
-      let G = good ws xs right in
-      record {
-        few-buses = omega (arith, G .few-buses);
-        few-generators = omega (arith, G .few-generators);
-        few-branches = omega (arith, G .few-branches);
-        some-word = omega (arith, G .words);
-        generator-words = omega (arith, G .words);
-        branch-words = omega (arith, G .words);
-        branch-numbers = omega (arith, start-is ws xs right);
-        start = start-at ws xs right g f;
-      }
+  m-is : l .branches ≡ branches ws
+  m-is = ap (λ x. x .branches) (L .words .is)
 
-  pub tallied-is : {n k m r angles rated segments epigraphs : ℕ} → n ≡ buses ws → k ≡ generators ws → m ≡ branches ws → r ≡ references ws
-      → angles ≡ spreads ws → angles ≤ m → rated ≡ tally m (isRated ws xs) → rated ≤ m → segments ≡ segmentsBefore ws k → segments ≤ 31 * k → epigraphs ≡ epigraphsBefore ws k → epigraphs ≤ k
-      → Tallied ws xs (record { buses = n; generators = k; branches = m; references = r; angles = angles; rated = rated; segments = segments; epigraphs = epigraphs })
-      × Few (record { buses = n; generators = k; branches = m; references = r; angles = angles; rated = rated; segments = segments; epigraphs = epigraphs })
-  tallied-is n k m r a a′ t t′ s s′ e e′ =
-      let G = good ws xs right in (
+  r-is : l .references ≡ references ws
+  r-is = ap (λ x. x .references) (L .words .is)
+
+  pub shared-are : l .buses + 8 * l .branches ≡ length (sharedParts ws xs)
+  shared-are = omega (arith, length-shared ws xs, n-is, m-is)
+
+  module _ {t : Tallies} (T : Tallied ws xs t) where
+    -- small enough for every sum below
+    pub record Small : Type 0 where
+      pub buses : l .buses ≤ mostBuses
+      pub generators : l .generators ≤ mostGenerators
+      pub branches : l .branches ≤ mostBranches
+      pub references : l .references ≤ mostReferences
+      pub angles : t .angles ≤ mostBranches
+      pub rated : t .rated ≤ mostBranches
+      pub segments : t .segments ≤ mostPoints * mostGenerators
+      pub epigraphs : t .epigraphs ≤ l .generators
+
+    pub small : Small
+    small =
+        let f = few L T in
         record {
-          of-buses = n;
-          of-generators = k;
-          of-branches = m;
-          of-references = r;
-          of-angles = a;
-          of-rated = t ∙ ap (λ x. tally x (isRated ws xs)) m;
-          of-segments = s ∙ ap (segmentsBefore ws) k;
-          of-epigraphs = e ∙ ap (epigraphsBefore ws) k;
-        },
-        (omega (arith, G .few-buses), omega (arith, G .few-generators), omega (arith, G .few-branches), omega (arith, G .few-references), omega (arith, G .few-branches), omega (arith, G .few-branches), omega (arith, G .few-generators), e′),
-      )
+          buses = L .words .few-buses;
+          generators = L .words .few-generators;
+          branches = L .words .few-branches;
+          references = L .words .few-references;
+          angles = f .0;
+          rated = f .1;
+          segments = f .2;
+          epigraphs = f .3;
+        }
 
--- ---- the counts
+    -- the objective's shares, by the network's own numbers
+    own-words : cond (l .costs && not (eqb (l .generators) 0)) (bit (ltb 1 (l .generators)) + (t .epigraphs + 8 * (l .generators - t .epigraphs))) 1
+        ≡ objectiveWords ws
+    unfolding objectiveWords
+    own-words = rw (L .words .is, T .of-epigraphs)
 
-module _ (ws : List ℕ) (xs : List Float) (right : Clear (faultTables ws xs)) (t : Tallies) (T : Tallied ws xs t) where
-  words-right : Clear (faultWords ws)
-  unfolding faultTables
-  words-right = or-left _ _ right
+    own-constants : cond (l .costs && not (eqb (l .generators) 0)) (2 * (l .generators - t .epigraphs)) 1 ≡ objectiveConstants ws
+    unfolding objectiveConstants
+    own-constants = rw (L .words .is, T .of-epigraphs)
 
-  -- the objective's shares, by the network's own numbers
-  own-words : (priced : Bool) (k : ℕ) → priced ≡ costs ws → k ≡ generators ws → cond (priced && not (eqb k 0)) (bit (ltb 1 k) + (t .epigraphs + 8 * (k - t .epigraphs))) 1 ≡ objectiveWords ws
-  unfolding objectiveWords
-  own-words priced k e f = rw (e, f, T .of-epigraphs)
+    pub words-are : Clear (faultTables ws xs) → {own : ℕ}
+        → own ≡ cond (l .costs && not (eqb (l .generators) 0)) (bit (ltb 1 (l .generators)) + (t .epigraphs + 8 * (l .generators - t .epigraphs))) 1
+        → 15 * l .buses + 2 * l .generators + 74 * l .branches + 2 * l .references + 4 * t .angles + 16 * t .rated + 8 * t .segments + 2 + own
+        ≡ length (fileWords ws xs)
+    words-are right {own} e =
+        let o : own ≡ objectiveWords ws = e ∙ own-words in
+        let all = count-of-words ws xs (words-clear ws xs right) in
+        omega (arith, all, o, n-is, k-is, m-is, r-is, T .of-angles, T .of-rated, T .of-segments)
 
-  own-constants : (priced : Bool) (k : ℕ) → priced ≡ costs ws → k ≡ generators ws → cond (priced && not (eqb k 0)) (2 * (k - t .epigraphs)) 1 ≡ objectiveConstants ws
-  unfolding objectiveConstants
-  own-constants priced k e f = rw (e, f, T .of-epigraphs)
+    pub constants-are : Clear (faultTables ws xs) → {own : ℕ}
+        → own ≡ cond (l .costs && not (eqb (l .generators) 0)) (2 * (l .generators - t .epigraphs)) 1
+        → 4 * l .buses + 16 * l .branches + 2 * t .rated + 2 * t .segments + own ≡ length (constants64 ws xs)
+    constants-are right {own} e =
+        let o : own ≡ objectiveConstants ws = e ∙ own-constants in
+        let all = count-of-constants ws xs (words-clear ws xs right) in
+        omega (arith, all, o, n-is, m-is, T .of-rated, T .of-segments)
 
-  words-are : {w o : ℕ} → w ≡ 15 * t .buses + 2 * t .generators + 74 * t .branches + 2 * t .references + 4 * t .angles + 16 * t .rated + 8 * t .segments + 2 + o → o ≡ objectiveWords ws → w ≡ length (fileWords ws xs)
-  words-are e f =
-      omega (
-        arith,
-        count-of-words ws xs words-right,
-        T .of-buses,
-        T .of-generators,
-        T .of-branches,
-        T .of-references,
-        T .of-angles,
-        T .of-rated,
-        T .of-segments,
-      )
+    pub columns-are : 2 * l .buses + 2 * l .generators + t .epigraphs ≡ columns ws
+    unfolding columns
+    columns-are = omega (arith, n-is, k-is, T .of-epigraphs)
 
-  constants-are : {w o : ℕ} → w ≡ 4 * t .buses + 16 * t .branches + 2 * t .rated + 2 * t .segments + o → o ≡ objectiveConstants ws → w ≡ length (constants64 ws xs)
-  constants-are e f = omega (arith, count-of-constants ws xs words-right, T .of-buses, T .of-branches, T .of-rated, T .of-segments)
+    pub rows-are : 2 * l .buses + l .references + t .angles + 2 * t .rated + t .segments ≡ length (rows ws xs)
+    rows-are = omega (arith, count-rows ws xs, n-is, r-is, T .of-angles, T .of-rated, T .of-segments)
 
-  columns-are : {w : ℕ} → w ≡ 2 * t .buses + 2 * t .generators + t .epigraphs → w ≡ columns ws
-  unfolding columns
-  columns-are e = omega (arith, T .of-buses, T .of-generators, T .of-epigraphs)
-
-  rows-are : {w : ℕ} → w ≡ 2 * t .buses + t .references + t .angles + 2 * t .rated + t .segments → w ≡ length (rows ws xs)
-  rows-are e = omega (arith, count-rows ws xs, T .of-buses, T .of-references, T .of-angles, T .of-rated, T .of-segments)
-
-  shared-are : {w : ℕ} → w ≡ t .buses + 8 * t .branches → w ≡ length (sharedParts ws xs)
-  shared-are e = omega (arith, length-shared ws xs, T .of-buses, T .of-branches)
-
-  pub accepted-is : {priced : Bool} {k w c n r s own-w own-c : ℕ} {o : Float} → priced ≡ costs ws → k ≡ generators ws
-      → own-w ≡ cond (priced && not (eqb k 0)) (bit (ltb 1 k) + (t .epigraphs + 8 * (k - t .epigraphs))) 1
-      → w ≡ 15 * t .buses + 2 * t .generators + 74 * t .branches + 2 * t .references + 4 * t .angles + 16 * t .rated + 8 * t .segments + 2 + own-w
-      → own-c ≡ cond (priced && not (eqb k 0)) (2 * (k - t .epigraphs)) 1
-      → c ≡ 4 * t .buses + 16 * t .branches + 2 * t .rated + 2 * t .segments + own-c
-      → n ≡ 2 * t .buses + 2 * t .generators + t .epigraphs
-      → r ≡ 2 * t .buses + t .references + t .angles + 2 * t .rated + t .segments
-      → s ≡ t .buses + 8 * t .branches
-      → o ≡ objectiveConstant ws xs
-      → _≡_ {A = Compiled} (record { number = 0; place = 0; words = w; constants = c; columns = n; rows = r; shared = s; objective = o }) (accepted ws xs)
-  unfolding accepted
-  accepted-is {priced} {k} e f ow w oc c n r s o =
-      rw (words-are w (ow ∙ own-words priced k e f), constants-are c (oc ∙ own-constants priced k e f), columns-are n, rows-are r, shared-are s, o)
+pub accepted-is : (ws : List ℕ) (xs : List Float) {w c n r s : ℕ} {o : Float} → w ≡ length (fileWords ws xs) → c ≡ length (constants64 ws xs)
+    → n ≡ columns ws → r ≡ length (rows ws xs) → s ≡ length (sharedParts ws xs) → o ≡ objectiveConstant ws xs
+    → _≡_ {A = Compiled} (record { number = 0; place = 0; words = w; constants = c; columns = n; rows = r; shared = s; objective = o }) (accepted ws xs)
+unfolding accepted
+accepted-is ws xs w c n r s o = rw (w, c, n, r, s, o)

@@ -1,17 +1,13 @@
 // The counts of the answer, from the network file, and refusal 12, short. Nothing is written.
 use crate::Compiled;
+use acopf::Tallies;
+use acopf::objective_constant;
 use acopf::objective_constants;
 use base::Fault;
 use base::refusal;
-use factor::epigraph_count;
-use factor::network_fault;
-use factor::objective_constant;
-use factor::rated_count;
-use factor::segment_count;
-use network::Sizes;
-use network::header_costs;
-use network::sizes_of;
-use rows::angle_count;
+use factor::Judged;
+use factor::judge;
+use network::Layout;
 ghost use mathlib.Core.Path.{_≡_};
 ghost use mathlib.Core.Bool.{cond, not, _&&_};
 ghost use Prim.Native.Nat.{_+_, _-_, _*_, _≤_};
@@ -20,10 +16,17 @@ ghost use lib.ListN.{length, getD};
 ghost use Rattle.base.proofs.Loops.{bit};
 ghost use Rattle.base.specs.Fault.{fault, unless, first};
 ghost use Rattle.base.specs.Refusal.{SHORT};
+ghost use Rattle.network.specs.Layout.{Laid};
+ghost use Rattle.network.specs.Limits.{mostGenerators};
+ghost use Rattle.network.specs.Network.{columns};
 ghost use Rattle.tables.specs.Fault.{faultTables};
-ghost use Rattle.network.specs.Network.{buses, generators, branches, references, costs};
-ghost use Rattle.compile.specs.Compile.{refused, accepted, sized, compiled};
-ghost use Rattle.compile.specs.contracts.Tallies.{Tallied, Few};
+ghost use Rattle.acopf.specs.Factor.{constants64};
+ghost use Rattle.acopf.specs.Model.{fileWords};
+ghost use Rattle.acopf.specs.Parts.{sharedParts};
+ghost use Rattle.acopf.specs.Rows.{rows};
+ghost use Rattle.acopf.specs.Tallies.{Tallied};
+ghost use Rattle.compile.specs.Compile.{refused, accepted, sized};
+ghost use Rattle.compile.specs.contracts.Decision.{Decides};
 
 // A refusal's answer has counts of 0.
 fn refused(f: Fault) -> Compiled
@@ -41,45 +44,9 @@ fn refused(f: Fault) -> Compiled
     }
 }
 
-// What the network has of each kind, from which every count is a sum.
-pub struct Tallies {
-    pub buses: usize,
-    pub generators: usize,
-    pub branches: usize,
-    pub references: usize,
-    pub angles: usize,
-    pub rated: usize,
-    pub segments: usize,
-    pub epigraphs: usize,
-}
-
-fn tallied(words: &[u32], numbers: &[f64], sizes: Sizes, priced: bool) -> Tallies
-    requires { ⌜ (sizes .buses ≡ buses (now words)) × (sizes .generators ≡ generators (now words)) × (sizes .branches ≡ branches (now words))
-        × (sizes .references ≡ references (now words)) × (priced ≡ costs (now words)) × (faultTables (now words) (now numbers) .number ≡ 0) ⌝ }
-    ensures { λ r. ⌜ Tallied (now (words .entry)) (now (numbers .entry)) r × Few r ⌝ }
-{
-    let n = sizes.buses;
-    let k = sizes.generators;
-    let m = sizes.branches;
-    let angles = angle_count(words, n, k, m);
-    let rated = rated_count(words, numbers, n, k, m, numbers.len() - 11 * m);
-    let segments = segment_count(words, n, k, priced);
-    let epigraphs = epigraph_count(words, n, k, priced);
-    Tallies {
-        buses: n,
-        generators: k,
-        branches: m,
-        references: sizes.references,
-        angles,
-        rated,
-        segments,
-        epigraphs,
-    }
-}
-
 // A cost's words: one an epigraph column, eight a quadratic cost, and a sum's own from two terms on.
 fn cost_words(k: usize, epigraphs: usize) -> usize
-    requires { ⌜ (epigraphs ≤ k) × (k ≤ 256) ⌝ }
+    requires { ⌜ (epigraphs ≤ k) × (k ≤ mostGenerators) ⌝ }
     ensures { λ r. ⌜ (r ≡ bit (ltb 1 k) + (epigraphs + 8 * (k - epigraphs))) × (r ≤ 2049) ⌝ }
 {
     let terms = epigraphs + 8 * (k - epigraphs);
@@ -90,81 +57,79 @@ fn cost_words(k: usize, epigraphs: usize) -> usize
 }
 
 // Counts the objective's words; without a term it is one constant.
-fn objective_words(priced: bool, k: usize, epigraphs: usize) -> usize
-    requires { ⌜ (epigraphs ≤ k) × (k ≤ 256) ⌝ }
-    ensures { λ r. ⌜ (r ≡ cond (priced && not (eqb k 0)) (bit (ltb 1 k) + (epigraphs + 8 * (k - epigraphs))) 1) × (r ≤ 2049) ⌝ }
+fn objective_words(costs: bool, k: usize, epigraphs: usize) -> usize
+    requires { ⌜ (epigraphs ≤ k) × (k ≤ mostGenerators) ⌝ }
+    ensures { λ r. ⌜ (r ≡ cond (costs && not (eqb k 0)) (bit (ltb 1 k) + (epigraphs + 8 * (k - epigraphs))) 1) × (r ≤ 2049) ⌝ }
 {
     let some = k != 0;
-    if priced & some {
+    if costs & some {
         return cost_words(k, epigraphs);
     }
     1
 }
 
-// Counts all words; `objective` is the objective's share.
-fn words_needed(t: Tallies, objective: usize) -> usize
-    requires { ⌜ Few t × (objective ≤ 2049) ⌝ }
-    ensures { λ r. ⌜ r ≡ 15 * t .buses + 2 * t .generators + 74 * t .branches + 2 * t .references + 4 * t .angles + 16 * t .rated + 8 * t .segments + 2 + objective ⌝ }
+fn words_needed(words: &[u32], numbers: &[f64], layout: Layout, tallies: Tallies) -> usize
+    requires { ⌜ Laid (now words) (now numbers) layout × Tallied (now words) (now numbers) tallies
+        × (faultTables (now words) (now numbers) .number ≡ 0) ⌝ }
+    ensures { λ r. ⌜ r ≡ length (fileWords (now (words .entry)) (now (numbers .entry))) ⌝ }
 {
-    15 * t.buses
-        + 2 * t.generators
-        + 74 * t.branches
-        + 2 * t.references
-        + 4 * t.angles
-        + 16 * t.rated
-        + 8 * t.segments
+    let objective = objective_words(layout.costs, layout.generators, tallies.epigraphs);
+    15 * layout.buses
+        + 2 * layout.generators
+        + 74 * layout.branches
+        + 2 * layout.references
+        + 4 * tallies.angles
+        + 16 * tallies.rated
+        + 8 * tallies.segments
         + 2
         + objective
 }
 
-fn constants_needed(t: Tallies, objective: usize) -> usize
-    requires { ⌜ Few t × (objective ≤ 512) ⌝ }
-    ensures { λ r. ⌜ r ≡ 4 * t .buses + 16 * t .branches + 2 * t .rated + 2 * t .segments + objective ⌝ }
+fn constants_needed(words: &[u32], numbers: &[f64], layout: Layout, tallies: Tallies) -> usize
+    requires { ⌜ Laid (now words) (now numbers) layout × Tallied (now words) (now numbers) tallies
+        × (faultTables (now words) (now numbers) .number ≡ 0) ⌝ }
+    ensures { λ r. ⌜ r ≡ length (constants64 (now (words .entry)) (now (numbers .entry))) ⌝ }
 {
-    4 * t.buses + 16 * t.branches + 2 * t.rated + 2 * t.segments + objective
+    let objective = objective_constants(layout.costs, layout.generators, tallies.epigraphs);
+    4 * layout.buses + 16 * layout.branches + 2 * tallies.rated + 2 * tallies.segments + objective
 }
 
-fn rows_needed(t: Tallies) -> usize
-    requires { ⌜ Few t ⌝ }
-    ensures { λ r. ⌜ r ≡ 2 * t .buses + t .references + t .angles + 2 * t .rated + t .segments ⌝ }
+fn columns_needed(words: &[u32], numbers: &[f64], layout: Layout, tallies: Tallies) -> usize
+    requires { ⌜ Laid (now words) (now numbers) layout × Tallied (now words) (now numbers) tallies ⌝ }
+    ensures { λ r. ⌜ r ≡ columns (now (words .entry)) ⌝ }
 {
-    2 * t.buses + t.references + t.angles + 2 * t.rated + t.segments
+    2 * layout.buses + 2 * layout.generators + tallies.epigraphs
 }
 
-fn columns_needed(t: Tallies) -> usize
-    requires { ⌜ Few t ⌝ }
-    ensures { λ r. ⌜ r ≡ 2 * t .buses + 2 * t .generators + t .epigraphs ⌝ }
+fn rows_needed(words: &[u32], numbers: &[f64], layout: Layout, tallies: Tallies) -> usize
+    requires { ⌜ Laid (now words) (now numbers) layout × Tallied (now words) (now numbers) tallies ⌝ }
+    ensures { λ r. ⌜ r ≡ length (rows (now (words .entry)) (now (numbers .entry))) ⌝ }
 {
-    2 * t.buses + 2 * t.generators + t.epigraphs
+    2 * layout.buses + layout.references + tallies.angles + 2 * tallies.rated + tallies.segments
 }
 
-fn shared_needed(t: Tallies) -> usize
-    requires { ⌜ Few t ⌝ }
-    ensures { λ r. ⌜ r ≡ t .buses + 8 * t .branches ⌝ }
+fn shared_needed(words: &[u32], numbers: &[f64], layout: Layout) -> usize
+    requires { ⌜ Laid (now words) (now numbers) layout ⌝ }
+    ensures { λ r. ⌜ r ≡ length (sharedParts (now (words .entry)) (now (numbers .entry))) ⌝ }
 {
-    t.buses + 8 * t.branches
+    layout.buses + 8 * layout.branches
 }
 
 // The answer for a network that is not refused.
-fn accepted(words: &[u32], numbers: &[f64], sizes: Sizes) -> Compiled
-    requires { ⌜ (sizes .buses ≡ buses (now words)) × (sizes .generators ≡ generators (now words)) × (sizes .branches ≡ branches (now words))
-        × (sizes .references ≡ references (now words)) × (faultTables (now words) (now numbers) .number ≡ 0) ⌝ }
+fn accepted(words: &[u32], numbers: &[f64], layout: Layout, tallies: Tallies) -> Compiled
+    requires { ⌜ Laid (now words) (now numbers) layout × Tallied (now words) (now numbers) tallies
+        × (faultTables (now words) (now numbers) .number ≡ 0) ⌝ }
     ensures { λ r. ⌜ r ≡ accepted (now (words .entry)) (now (numbers .entry)) ⌝ }
 {
-    let n = sizes.buses;
-    let k = sizes.generators;
-    let priced = header_costs(words[0]);
-    let t = tallied(words, numbers, sizes, priced);
-    let epigraphs = t.epigraphs;
     Compiled {
         number: 0,
         place: 0,
-        words: words_needed(t, objective_words(priced, k, epigraphs)),
-        constants: constants_needed(t, objective_constants(priced, k, epigraphs)),
-        columns: columns_needed(t),
-        rows: rows_needed(t),
-        shared: shared_needed(t),
-        objective: objective_constant(words, numbers, n, k, priced),
+        words: words_needed(words, numbers, layout, tallies),
+        constants: constants_needed(words, numbers, layout, tallies),
+        columns: columns_needed(words, numbers, layout, tallies),
+        rows: rows_needed(words, numbers, layout, tallies),
+        shared: shared_needed(words, numbers, layout),
+        objective: objective_constant(words, numbers, layout),
     }
 }
 
@@ -172,11 +137,11 @@ fn accepted(words: &[u32], numbers: &[f64], sizes: Sizes) -> Compiled
 pub fn sized(words: &[u32], numbers: &[f64]) -> Compiled
     ensures { λ r. ⌜ r ≡ sized (now (words .entry)) (now (numbers .entry)) ⌝ }
 {
-    let fault = network_fault(words, numbers);
-    if fault.number != 0 {
-        return refused(fault);
+    let judged = judge(words, numbers);
+    match judged {
+        Judged::Refused(fault) => refused(fault),
+        Judged::Sound(layout, tallies) => accepted(words, numbers, layout, tallies),
     }
-    accepted(words, numbers, sizes_of(words))
 }
 
 // 12: the first list that is shorter than what it needs.
@@ -197,31 +162,40 @@ fn short_fault(needs: [usize; 7], lent: [usize; 7]) -> Fault
     refusal::CLEAR
 }
 
+// The answer; where nothing is refused also the network's layout and tallies, for those who write.
+pub(crate) enum Decision {
+    Refused(Compiled),
+    Accepted(Compiled, Layout, Tallies),
+}
+
 // Every refusal is decided here, before anything is written.
-pub(crate) fn decided(words: &[u32], numbers: &[f64], lent: [usize; 7]) -> Compiled
+pub(crate) fn decided(words: &[u32], numbers: &[f64], lent: [usize; 7]) -> Decision
     requires { ⌜ 7 ≤ length lent ⌝ }
-    ensures { λ r. ⌜ r ≡ compiled (now (words .entry)) (now (numbers .entry)) lent ⌝ }
+    ensures { λ r. ⌜ Decides (now (words .entry)) (now (numbers .entry)) lent r ⌝ }
 {
-    let answer = sized(words, numbers);
-    if answer.number != 0 {
-        return answer;
+    let judged = judge(words, numbers);
+    match judged {
+        Judged::Refused(fault) => Decision::Refused(refused(fault)),
+        Judged::Sound(layout, tallies) => {
+            let answer = accepted(words, numbers, layout, tallies);
+            let columns = answer.columns;
+            let rows = answer.rows;
+            let short = short_fault(
+                [
+                    answer.words,
+                    answer.constants,
+                    columns,
+                    columns,
+                    columns,
+                    rows,
+                    rows,
+                ],
+                lent,
+            );
+            if short.number != 0 {
+                return Decision::Refused(refused(short));
+            }
+            Decision::Accepted(answer, layout, tallies)
+        }
     }
-    let columns = answer.columns;
-    let rows = answer.rows;
-    let short = short_fault(
-        [
-            answer.words,
-            answer.constants,
-            columns,
-            columns,
-            columns,
-            rows,
-            rows,
-        ],
-        lent,
-    );
-    if short.number != 0 {
-        return refused(short);
-    }
-    answer
 }

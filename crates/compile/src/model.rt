@@ -1,18 +1,64 @@
 // The model file and its six lists of bounds, starts and constants, each by the writer that has its definition.
 use crate::Compiled;
+use crate::decide::Decision;
 use crate::decide::decided;
 use columns::write_column_lower;
 use columns::write_column_start;
 use columns::write_column_upper;
 use emit::write_model;
-use network::layout_of;
+use network::Sizes;
 use network::sizes_of;
 use rows::write_row_lower;
 use rows::write_row_upper;
 ghost use mathlib.Core.Path.{_≡_};
+ghost use mathlib.Core.List.{_++_};
+ghost use Prim.Native.Nat.{_≤_};
+ghost use lib.ListN.{length, drop};
 ghost use Rattle.float.specs.Doubles.{Doubles};
+ghost use Rattle.network.specs.Network.{buses, generators, branches, references, columns};
+ghost use Rattle.tables.specs.Fault.{faultTables};
+ghost use Rattle.acopf.specs.Columns.{columnLower, columnUpper, columnStart};
+ghost use Rattle.acopf.specs.Rows.{rows, rowLower, rowUpper};
 ghost use Rattle.compile.specs.Compile.{compiled};
 ghost use Rattle.compile.specs.Lists.{lists, lent, Held};
+
+// The columns' three lists.
+fn write_columns(
+    words: &[u32],
+    numbers: &[f64],
+    sizes: Sizes,
+    lower: &mut [f64],
+    upper: &mut [f64],
+    start: &mut [f64],
+)
+    requires { ⌜ (let ws = now words in
+        (sizes .buses ≡ buses ws) × (sizes .generators ≡ generators ws) × (faultTables ws (now numbers) .number ≡ 0)
+        × (columns ws ≤ length (now lower)) × (columns ws ≤ length (now upper)) × (columns ws ≤ length (now start))) ⌝ }
+    ensures { λ _. ⌜ (let ws = now (words .entry) in
+        let xs = now (numbers .entry) in
+        (now (lower .exit) ≡ columnLower ws xs ++ drop (length (columnLower ws xs)) (now (lower .entry)))
+        × (now (upper .exit) ≡ columnUpper ws xs ++ drop (length (columnUpper ws xs)) (now (upper .entry)))
+        × (now (start .exit) ≡ columnStart ws xs ++ drop (length (columnStart ws xs)) (now (start .entry)))) ⌝ }
+{
+    write_column_lower(words, numbers, sizes, lower);
+    write_column_upper(words, numbers, sizes, upper);
+    write_column_start(words, numbers, sizes, start);
+}
+
+// The rows' two lists.
+fn write_rows(words: &[u32], numbers: &[f64], sizes: Sizes, lower: &mut [f64], upper: &mut [f64])
+    requires { ⌜ (let ws = now words in
+        let xs = now numbers in
+        (sizes .buses ≡ buses ws) × (sizes .generators ≡ generators ws) × (sizes .branches ≡ branches ws) × (sizes .references ≡ references ws)
+        × (faultTables ws xs .number ≡ 0) × (length (rows ws xs) ≤ length (now lower)) × (length (rows ws xs) ≤ length (now upper))) ⌝ }
+    ensures { λ _. ⌜ (let ws = now (words .entry) in
+        let xs = now (numbers .entry) in
+        (now (lower .exit) ≡ rowLower ws xs ++ drop (length (rowLower ws xs)) (now (lower .entry)))
+        × (now (upper .exit) ≡ rowUpper ws xs ++ drop (length (rowUpper ws xs)) (now (upper .entry)))) ⌝ }
+{
+    write_row_lower(words, numbers, sizes, lower);
+    write_row_upper(words, numbers, sizes, upper);
+}
 
 // compile_ac_opf_model, before augmentation. All refusals come before the first write.
 pub fn compile(
@@ -26,14 +72,15 @@ pub fn compile(
     row_lower: &mut [f64],
     row_upper: &mut [f64],
 ) -> Compiled
-    ensures { λ r. ⌜ (r ≡ compiled (now (words .entry)) (now (numbers .entry))
-        (lent (lists (now («model_words» .entry)) (now (constants .entry)) (now («column_lower» .entry)) (now («column_upper» .entry)) (now (start .entry)) (now («row_lower» .entry)) (now («row_upper» .entry)))))
-        × Held (now (words .entry)) (now (numbers .entry))
-        (lists (now («model_words» .entry)) (now (constants .entry)) (now («column_lower» .entry)) (now («column_upper» .entry)) (now (start .entry)) (now («row_lower» .entry)) (now («row_upper» .entry)))
-        (lists (now («model_words» .exit)) (now (constants .exit)) (now («column_lower» .exit)) (now («column_upper» .exit)) (now (start .exit)) (now («row_lower» .exit)) (now («row_upper» .exit)))
-        × Doubles (now (numbers .entry)) ⌝ }
+    ensures { λ r. ⌜ (let ws = now (words .entry) in
+        let xs = now (numbers .entry) in
+        let before = lists (now («model_words» .entry)) (now (constants .entry)) (now («column_lower» .entry)) (now («column_upper» .entry))
+        (now (start .entry)) (now («row_lower» .entry)) (now («row_upper» .entry)) in
+        let after = lists (now («model_words» .exit)) (now (constants .exit)) (now («column_lower» .exit)) (now («column_upper» .exit))
+        (now (start .exit)) (now («row_lower» .exit)) (now («row_upper» .exit)) in
+        (r ≡ compiled ws xs (lent before)) × Held ws xs before after × Doubles xs) ⌝ }
 {
-    let answer = decided(
+    let decision = decided(
         words,
         numbers,
         [
@@ -46,16 +93,14 @@ pub fn compile(
             row_upper.len(),
         ],
     );
-    if answer.number != 0 {
-        return answer;
+    match decision {
+        Decision::Refused(answer) => answer,
+        Decision::Accepted(answer, layout, _) => {
+            let sizes = sizes_of(words);
+            write_model(words, numbers, layout, model_words, constants);
+            write_columns(words, numbers, sizes, column_lower, column_upper, start);
+            write_rows(words, numbers, sizes, row_lower, row_upper);
+            answer
+        }
     }
-    let sizes = sizes_of(words);
-    let layout = layout_of(words);
-    write_model(words, numbers, layout, model_words, constants);
-    write_column_lower(words, numbers, sizes, column_lower);
-    write_column_upper(words, numbers, sizes, column_upper);
-    write_column_start(words, numbers, sizes, start);
-    write_row_lower(words, numbers, sizes, row_lower);
-    write_row_upper(words, numbers, sizes, row_upper);
-    answer
 }
