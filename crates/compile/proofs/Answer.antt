@@ -33,9 +33,9 @@ module _ (ws : List ℕ) (xs : List Float) where
 
   -- the network's refusal
   pub decided-refused : (lent : List ℕ) {f : Fault} {r : Compiled} → r ≡ refused f → f ≡ networkFault ws xs → (Clear f → ⊥)
-      → (r ≡ compiled ws xs lent) × (r .number ≡ 0 → ⊥)
+      → (r ≡ compiled ws xs lent) × (r .fault .number ≡ 0 → ⊥)
   unfolding refused
-  decided-refused lent p e n = (p ∙ network-refused lent e n, λ z. n (ap (λ x. x .number) (sym p) ∙ z))
+  decided-refused lent p e n = (p ∙ network-refused lent e n, λ z. n (ap (λ x. x .fault .number) (sym p) ∙ z))
 
   -- lists that are as long as their results suffice
   lengths-suffice : Clear (faultShort ws xs (lengths ws xs))
@@ -70,10 +70,10 @@ module _ (ws : List ℕ) (xs : List Float) where
     fault-is : short ≡ compileFault ws xs lent
     fault-is = s ∙ short-is lent is ∙ sym (compile-is ws xs lent ∙ or-go (networkFault ws xs) (faultShort ws xs lent) (ap (λ x. x .number) sound))
 
-    pub decided-short : (Clear short → ⊥) → {r : Compiled} → r ≡ refused short → (r ≡ compiled ws xs lent) × (r .number ≡ 0 → ⊥)
+    pub decided-short : (Clear short → ⊥) → {r : Compiled} → r ≡ refused short → (r ≡ compiled ws xs lent) × (r .fault .number ≡ 0 → ⊥)
     unfolding refused
-    decided-short n p = (p ∙ compiled-refused lent fault-is n, λ z. n (ap (λ x. x .number) (sym p) ∙ z))
+    decided-short n p = (p ∙ compiled-refused lent fault-is n, λ z. n (ap (λ x. x .fault .number) (sym p) ∙ z))
 
-    pub decided-accepted : Clear short → (answer ≡ compiled ws xs lent) × (answer .number ≡ 0)
+    pub decided-accepted : Clear short → (answer ≡ compiled ws xs lent) × (answer .fault .number ≡ 0)
     unfolding accepted
-    decided-accepted c = (is ∙ compiled-accepted lent (ap (λ x. x .number) (sym fault-is) ∙ c), ap (λ x. x .number) is)
+    decided-accepted c = (is ∙ compiled-accepted lent (ap (λ x. x .number) (sym fault-is) ∙ c), ap (λ x. x .fault .number) is)

@@ -11,8 +11,9 @@ use lib.Dec.{eqb, leb}
 use lib.Ieee.{Float}
 use borrow.Author.Tests.{leb-true, le-leb, eqb-true, eqb-false}
 use Rattle.base.specs.Word.{word}
+use Rattle.base.specs.declared.Fault.{Fault}
 use Rattle.base.specs.Fault.{fault, clear}
-use Rattle.base.proofs.Firsts.{Clear, Proper, or-left, or-right, or-clear, unless-true, unless-clear, unless-proper, first-clear, all-clear, first-proper}
+use Rattle.base.proofs.Firsts.{Clear, Proper, or-left, or-right, or-clear, or-proper, unless-true, unless-clear, unless-proper, first-clear, all-clear, first-proper}
 use Rattle.base.proofs.Left.{left-front}
 use Rattle.base.proofs.Loops.{Every, every-nil, every-cons, all-at}
 use Rattle.nl.specs.Expr.{words}
@@ -30,20 +31,21 @@ use Rattle.compile.proofs.Order.{compile-is}
 use Rattle.compile.proofs.Answer.{sized-accepted, sized-refused}
 
 -- the answer of one of two whose number is 0, where the other's is not
-answered : (P : Compiled → Type 0) (b : Bool) (full refused : Compiled) → P full → (b ≡ false → refused .number ≡ 0 → ⊥) → cond b full refused .number ≡ 0 → P (cond b full refused)
+answered : (P : Compiled → Type 0) (b : Bool) (full refused : Compiled) → P full → (b ≡ false → refused .fault .number ≡ 0 → ⊥)
+    → cond b full refused .fault .number ≡ 0 → P (cond b full refused)
 answered P true full refused h k e = h
 answered P false full refused h k e = absurd (k refl e)
 
--- the number of the two answers of `compiled`
-one-of-two : (n : ℕ) (full refused : Compiled) → full .number ≡ 0 → refused .number ≡ n → cond (eqb n 0) full refused .number ≡ n
-one-of-two n full refused h k = go (eqb n 0) refl
+-- the fault of the two answers of `compiled`
+one-of-two : (f : Fault) (full refused : Compiled) → Proper f → full .fault ≡ clear → refused .fault ≡ f → cond (eqb (f .number) 0) full refused .fault ≡ f
+one-of-two f full refused proper h k = go (eqb (f .number) 0) refl
   where
-    go : (b : Bool) → eqb n 0 ≡ b → cond b full refused .number ≡ n
-    go true p = h ∙ sym (eqb-true n 0 p)
+    go : (b : Bool) → eqb (f .number) 0 ≡ b → cond b full refused .fault ≡ f
+    go true p = h ∙ sym (proper (eqb-true (f .number) 0 p))
     go false p = k
 
 module _ (ws : List ℕ) (xs : List Float) where
-  pub counted : (lent : List ℕ) → compiled ws xs lent .number ≡ 0 → Counted ws xs (compiled ws xs lent)
+  pub counted : (lent : List ℕ) → compiled ws xs lent .fault .number ≡ 0 → Counted ws xs (compiled ws xs lent)
   unfolding compiled accepted refused
   counted lent e =
       answered (Counted ws xs) (eqb (compileFault ws xs lent .number) 0) _ _
@@ -103,12 +105,21 @@ module _ (ws : List ℕ) (xs : List Float) where
 
     -- ---- nothing is refused
 
-    pub number-is : compiled ws xs lent .number ≡ compileFault ws xs lent .number
+    compile-proper : Proper (compileFault ws xs lent)
+    compile-proper c =
+        let is = compile-is ws xs lent in
+        is ∙ or-proper (networkFault ws xs) (faultShort ws xs lent) short-proper (ap (λ f. f .number) (sym is) ∙ c)
+
+    -- the answer's fault is compile's first
+    pub fault-is : compiled ws xs lent .fault ≡ compileFault ws xs lent
     unfolding compiled accepted refused
-    number-is = one-of-two (compileFault ws xs lent .number) _ _ refl refl
+    fault-is = one-of-two (compileFault ws xs lent) _ _ compile-proper refl refl
+
+    number-is : compiled ws xs lent .fault .number ≡ compileFault ws xs lent .number
+    number-is = ap (λ f. f .number) fault-is
 
     -- the answer is 0 exactly where the network is not refused and the lists suffice: "12 where lists suffice" is ruled out
-    pub compiled-exactly : (compiled ws xs lent .number ≡ 0) ↔ ((networkFault ws xs ≡ clear) × Suffice ws xs lent)
+    pub compiled-exactly : (compiled ws xs lent .fault .number ≡ 0) ↔ ((networkFault ws xs ≡ clear) × Suffice ws xs lent)
     compiled-exactly = (
       λ e. let c = ap (λ f. f .number) (sym (compile-is ws xs lent)) ∙ sym number-is ∙ e in
           (network-proper ws xs (or-left (networkFault ws xs) (faultShort ws xs lent) c), short-exactly .0 (short-proper (or-right (networkFault ws xs) (faultShort ws xs lent) c))),
@@ -116,7 +127,7 @@ module _ (ws : List ℕ) (xs : List Float) where
           ∙ or-clear (networkFault ws xs) (faultShort ws xs lent) (ap (λ f. f .number) (h .0)) (ap (λ f. f .number) (short-exactly .1 (h .1))),
     )
 
-    pub fronts : compiled ws xs lent .number ≡ 0 → Fronts ws xs lent
+    pub fronts : compiled ws xs lent .fault .number ≡ 0 → Fronts ws xs lent
     fronts e =
         let c : Clear (compileFault ws xs lent) = sym number-is ∙ e in
         let n = counted lent e in
@@ -133,7 +144,7 @@ module _ (ws : List ℕ) (xs : List Float) where
   -- ---- what a host is told before it lends lists
 
   -- the numbers are those of the answer, where that refuses nothing
-  pub told : (lent : List ℕ) → compiled ws xs lent .number ≡ 0 → compiled ws xs lent ≡ sized ws xs
+  pub told : (lent : List ℕ) → compiled ws xs lent .fault .number ≡ 0 → compiled ws xs lent ≡ sized ws xs
   unfolding compiled refused
   told lent e =
       answered (λ c. c ≡ accepted ws xs) (eqb (compileFault ws xs lent .number) 0) _ _ refl (eqb-false (compileFault ws xs lent .number) 0) e

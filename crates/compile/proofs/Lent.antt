@@ -20,17 +20,17 @@ use Rattle.compile.specs.declared.Compiled.{Compiled}
 use Rattle.compile.specs.Compile.{compileFault, compiled}
 use Rattle.compile.specs.Lists.{Lists, lent, Held}
 use Rattle.compile.specs.Counted.{Suffice}
-use Rattle.compile.proofs.Counts.{number-is, compiled-exactly}
+use Rattle.compile.proofs.Counts.{fault-is, compiled-exactly}
 
 -- the list with a writer's result in front
 abbrev Front : {A : Type 0} → List A → List A → List A → Type 0
 Front result before after = after ≡ result ++ drop (length result) before
 
 module _ (ws : List ℕ) (xs : List Float) (before : Lists) {answer : Compiled} (is : answer ≡ compiled ws xs (lent before)) where
-  numbers-agree : answer .number ≡ compileFault ws xs (lent before) .number
-  numbers-agree = ap (λ a. a .number) is ∙ number-is ws xs (lent before)
+  numbers-agree : answer .fault .number ≡ compileFault ws xs (lent before) .number
+  numbers-agree = ap (λ a. a .fault .number) is ∙ ap (λ f. f .number) (fault-is ws xs (lent before))
 
-  module _ (refuses : answer .number ≡ 0 → ⊥) where
+  module _ (refuses : answer .fault .number ≡ 0 → ⊥) where
     as-it-was : {A : Type 0} (result held : List A) → held ≡ left (compileFault ws xs (lent before)) result held
     as-it-was result held = sym (left-refused (compileFault ws xs (lent before)) result held (λ c. refuses (numbers-agree ∙ c)))
 
@@ -46,7 +46,7 @@ module _ (ws : List ℕ) (xs : List Float) (before : Lists) {answer : Compiled} 
           row-upper = as-it-was (rowUpper ws xs) (before .row-upper);
         }
 
-  module _ (accepts : answer .number ≡ 0) where
+  module _ (accepts : answer .fault .number ≡ 0) where
     as-written : {A : Type 0} (result held : List A) {after : List A} → Front result held after → after ≡ left (compileFault ws xs (lent before)) result held
     as-written result held e = e ∙ rw (eq-eqb _ _ (sym numbers-agree ∙ accepts))
 
@@ -66,8 +66,8 @@ module _ (ws : List ℕ) (xs : List Float) (before : Lists) {answer : Compiled} 
         }
 
     -- what the writers ask for
-    exactly : compiled ws xs (lent before) .number ≡ 0
-    exactly = ap (λ a. a .number) (sym is) ∙ accepts
+    exactly : compiled ws xs (lent before) .fault .number ≡ 0
+    exactly = ap (λ a. a .fault .number) (sym is) ∙ accepts
 
     pub tables-right : Clear (faultTables ws xs)
     tables-right = tables-clear ws xs (compiled-exactly ws xs (lent before) .0 exactly .0)

@@ -7,6 +7,7 @@ use native.Mathlib.Omega.{arith}
 use lib.Dec.{eqb, ltb}
 use lib.ListN.{length}
 use lib.Ieee.{Float}
+use Rattle.base.specs.Fault.{clear}
 use Rattle.base.proofs.Firsts.{Clear}
 use Rattle.base.proofs.Loops.{bit}
 use Rattle.network.specs.declared.layout.Layout.{Layout}
@@ -105,6 +106,6 @@ module _ {ws : List ℕ} {xs : List Float} {l : Layout} (L : Laid ws xs l) where
 
 pub accepted-is : (ws : List ℕ) (xs : List Float) {w c n r s : ℕ} {o : Float} → w ≡ length (fileWords ws xs) → c ≡ length (constants64 ws xs)
     → n ≡ columns ws → r ≡ length (rows ws xs) → s ≡ length (sharedParts ws xs) → o ≡ objectiveConstant ws xs
-    → _≡_ {A = Compiled} (record { number = 0; place = 0; words = w; constants = c; columns = n; rows = r; shared = s; objective = o }) (accepted ws xs)
+    → _≡_ {A = Compiled} (record { fault = clear; words = w; constants = c; columns = n; rows = r; shared = s; objective = o }) (accepted ws xs)
 unfolding accepted
 accepted-is ws xs w c n r s o = rw (w, c, n, r, s, o)

@@ -6,7 +6,7 @@ use lib.ListN.{length, getD}
 use lib.Dec.{eqb, leb}
 use lib.Ieee.{Float}
 use Rattle.base.specs.declared.Fault.{Fault}
-use Rattle.base.specs.Fault.{fault, unless, first, Section, section, firstOf, left}
+use Rattle.base.specs.Fault.{fault, clear, unless, first, Section, section, firstOf, left}
 use Rattle.base.specs.Refusal.{SHORT}
 use Rattle.float.specs.Number.{zero64}
 use Rattle.network.specs.Network.{columns}
@@ -19,7 +19,7 @@ use Rattle.compile.specs.declared.Compiled.{Compiled}
 
 -- "A refusal gives number and place, all else 0"
 unfoldable pub refused : Fault → Compiled
-refused f = record { number = f .number; place = f .place; words = 0; constants = 0; columns = 0; rows = 0; shared = 0; objective = zero64 }
+refused f = record { fault = f; words = 0; constants = 0; columns = 0; rows = 0; shared = 0; objective = zero64 }
 
 module _ (ws : List ℕ) (xs : List Float) where
   -- the results' lengths: "Seven lists, in refusal 12's order: words, constants, column lower, upper, start, row lower, upper"
@@ -45,8 +45,7 @@ module _ (ws : List ℕ) (xs : List Float) where
   unfoldable pub accepted : Compiled
   accepted =
       record {
-        number = 0;
-        place = 0;
+        fault = clear;
         words = length (fileWords ws xs);
         constants = length (constants64 ws xs);
         columns = columns ws;

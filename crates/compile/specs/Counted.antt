@@ -12,7 +12,8 @@ use Rattle.acopf.specs.Rows.{rowLower, rowUpper}
 use Rattle.acopf.specs.Model.{model, fileWords}
 use Rattle.acopf.specs.Factor.{constants64}
 use Rattle.compile.specs.declared.Compiled.{Compiled}
-use Rattle.compile.specs.Compile.{compiled, wordsAfter, constantsAfter, columnLowerAfter, columnUpperAfter, startAfter, rowLowerAfter, rowUpperAfter}
+use Rattle.compile.specs.Compile.{compiled, wordsAfter, constantsAfter}
+use Rattle.compile.specs.Compile.{columnLowerAfter, columnUpperAfter, startAfter, rowLowerAfter, rowUpperAfter}
 
 -- the five counts of an answer c are those of the lists, and of the model's constants, rows and shared parts
 pub record Counted (ws : List ℕ) (xs : List Float) (c : Compiled) : Type 0 where

@@ -4,7 +4,8 @@ use mathlib.Core.Path.{_≡_}
 use mathlib.Core.List.{List, [], _∷_}
 use lib.ListN.{length}
 use lib.Ieee.{Float}
-use Rattle.compile.specs.Compile.{wordsAfter, constantsAfter, columnLowerAfter, columnUpperAfter, startAfter, rowLowerAfter, rowUpperAfter}
+use Rattle.compile.specs.Compile.{wordsAfter, constantsAfter}
+use Rattle.compile.specs.Compile.{columnLowerAfter, columnUpperAfter, startAfter, rowLowerAfter, rowUpperAfter}
 
 pub record Lists : Type 0 where
   pub words : List ℕ

@@ -1,9 +1,8 @@
 // compile across the C boundary: each function returns one number of the answer.
 use crate::decide::sized;
 use crate::model::compile;
-use base::Fault;
 ghost use mathlib.Core.Path.{_≡_};
-ghost use Rattle.base.specs.Fault.{fault, packed};
+ghost use Rattle.base.specs.Fault.{packed};
 ghost use Rattle.float.specs.Doubles.{Doubles};
 ghost use Rattle.compile.specs.Compile.{compiled, sized};
 ghost use Rattle.compile.specs.Lists.{lists, lent, Held};
@@ -21,12 +20,13 @@ pub extern "C" fn fervoulk_compile(
     row_lower: &mut [f64],
     row_upper: &mut [f64],
 ) -> u64
-    ensures { λ r. ⌜ (r ≡ packed (fault (compiled (now (words .entry)) (now (numbers .entry))
-        (lent (lists (now («model_words» .entry)) (now (constants .entry)) (now («column_lower» .entry)) (now («column_upper» .entry)) (now (start .entry)) (now («row_lower» .entry)) (now («row_upper» .entry)))) .number) (compiled (now (words .entry)) (now (numbers .entry)) (lent (lists (now («model_words» .entry)) (now (constants .entry)) (now («column_lower» .entry)) (now («column_upper» .entry)) (now (start .entry)) (now («row_lower» .entry)) (now («row_upper» .entry)))) .place)))
-        × Held (now (words .entry)) (now (numbers .entry))
-        (lists (now («model_words» .entry)) (now (constants .entry)) (now («column_lower» .entry)) (now («column_upper» .entry)) (now (start .entry)) (now («row_lower» .entry)) (now («row_upper» .entry)))
-        (lists (now («model_words» .exit)) (now (constants .exit)) (now («column_lower» .exit)) (now («column_upper» .exit)) (now (start .exit)) (now («row_lower» .exit)) (now («row_upper» .exit)))
-        × Doubles (now (numbers .entry)) ⌝ }
+    ensures { λ r. ⌜ (let ws = now (words .entry) in
+        let xs = now (numbers .entry) in
+        let before = lists (now («model_words» .entry)) (now (constants .entry)) (now («column_lower» .entry)) (now («column_upper» .entry))
+        (now (start .entry)) (now («row_lower» .entry)) (now («row_upper» .entry)) in
+        let after = lists (now («model_words» .exit)) (now (constants .exit)) (now («column_lower» .exit)) (now («column_upper» .exit))
+        (now (start .exit)) (now («row_lower» .exit)) (now («row_upper» .exit)) in
+        (r ≡ packed (compiled ws xs (lent before) .fault)) × Held ws xs before after × Doubles xs) ⌝ }
 {
     let answer = compile(
         words,
@@ -39,14 +39,11 @@ pub extern "C" fn fervoulk_compile(
         row_lower,
         row_upper,
     );
-    base::packed(Fault {
-        number: answer.number,
-        place: answer.place,
-    })
+    base::packed(answer.fault)
 }
 
-// The numbers of the answer that a host needs before it lends lists: those of lists exactly as long as their results, and 0 where the network
-// is refused.
+// The numbers of the answer that a host needs before it lends lists: those of lists exactly as long as their results, and 0 where the
+// network is refused.
 #[no_mangle]
 pub extern "C" fn fervoulk_words(words: &[u32], numbers: &[f64]) -> usize
     ensures { λ r. ⌜ r ≡ sized (now (words .entry)) (now (numbers .entry)) .words ⌝ }

@@ -33,8 +33,7 @@ fn refused(f: Fault) -> Compiled
     ensures { λ r. ⌜ r ≡ refused f ⌝ }
 {
     Compiled {
-        number: f.number,
-        place: f.place,
+        fault: f,
         words: 0,
         constants: 0,
         columns: 0,
@@ -68,6 +67,7 @@ fn objective_words(costs: bool, k: usize, epigraphs: usize) -> usize
     1
 }
 
+// The lengths of the results, each a sum over what the network has.
 fn words_needed(words: &[u32], numbers: &[f64], layout: Layout, tallies: Tallies) -> usize
     requires { ⌜ Laid (now words) (now numbers) layout × Tallied (now words) (now numbers) tallies
         × (faultTables (now words) (now numbers) .number ≡ 0) ⌝ }
@@ -122,8 +122,7 @@ fn accepted(words: &[u32], numbers: &[f64], layout: Layout, tallies: Tallies) ->
     ensures { λ r. ⌜ r ≡ accepted (now (words .entry)) (now (numbers .entry)) ⌝ }
 {
     Compiled {
-        number: 0,
-        place: 0,
+        fault: refusal::CLEAR,
         words: words_needed(words, numbers, layout, tallies),
         constants: constants_needed(words, numbers, layout, tallies),
         columns: columns_needed(words, numbers, layout, tallies),

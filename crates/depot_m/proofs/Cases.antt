@@ -63,7 +63,7 @@ lent = replicate 7 512
 unfoldable compiles : List ℕ → List Float → List ℕ → List Float → Float → Bool
 compiles ws xs file cs objective =
     let r = compiled ws xs lent in
-    eqb (r .number) 0 && eqb (r .place) 0 && sameList (fileWords ws xs) file && sameList (bits (constants64 ws xs)) (bits cs)
+    eqb (r .fault .number) 0 && eqb (r .fault .place) 0 && sameList (fileWords ws xs) file && sameList (bits (constants64 ws xs)) (bits cs)
     && eqb (toBits binary64 (r .objective)) (toBits binary64 objective)
     && sameList (r .words ∷ r .constants ∷ r .columns ∷ r .rows ∷ r .shared ∷ []) (length file ∷ length cs ∷ columns ws ∷ length (rows ws xs) ∷ length (sharedParts ws xs) ∷ [])
 
@@ -72,12 +72,12 @@ unfoldable prints : List ℕ → List ℕ → Bool
 prints input text = sameList (output input) text
 
 unfoldable starts : List ℕ → List Float → List Float → Bool
-starts ws xs expected = eqb (compiled ws xs lent .number) 0 && sameList (bits (columnStart ws xs)) (bits expected)
+starts ws xs expected = eqb (compiled ws xs lent .fault .number) 0 && sameList (bits (columnStart ws xs)) (bits expected)
 
 unfoldable compileRefuses : List ℕ → List Float → ℕ → ℕ → Bool
 compileRefuses ws xs number place =
     let r = compiled ws xs lent in
-    eqb (r .number) number && eqb (r .place) place
+    eqb (r .fault .number) number && eqb (r .fault .place) place
     && sameList (r .words ∷ r .constants ∷ r .columns ∷ r .rows ∷ r .shared ∷ toBits binary64 (r .objective) ∷ []) (replicate 6 0)
 
 -- the point's answer

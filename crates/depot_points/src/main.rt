@@ -108,8 +108,8 @@ fn show_model(words: &[u32], va: f64, vm: f64, pmin: f64, pmax: f64) {
         &mut row_lower,
         &mut row_upper,
     );
-    print(answer.number as u64);
-    print(answer.place as u64);
+    print(answer.fault.number as u64);
+    print(answer.fault.place as u64);
     print(answer.words as u64);
     print(answer.constants as u64);
     print(answer.columns as u64);

@@ -38,26 +38,26 @@ lines-take n ws h = rw (length-take-le n ws h) (each-same n _ _ (λ i l. ap hexL
 
 -- compile's answer, and its words where nothing is refused
 module _ (ws : List ℕ) (xs : List Float) (answer : Compiled) (is : answer ≡ compiled ws xs lent) where
-  clear-of : answer .number ≡ 0 → compiled ws xs lent .number ≡ 0
-  clear-of h = ap (λ a. a .number) (sym is) ∙ h
+  clear-of : answer .fault .number ≡ 0 → compiled ws xs lent .fault .number ≡ 0
+  clear-of h = ap (λ a. a .fault .number) (sym is) ∙ h
 
-  pub few-words : answer .number ≡ 0 → answer .words ≤ 512
+  pub few-words : answer .fault .number ≡ 0 → answer .words ≤ 512
   few-words h =
       let c = clear-of h in
       omega (arith, ap (λ a. a .words) is, counted ws xs lent c .words, compiled-exactly ws xs lent .0 c .1 .words)
 
-  pub network-lines : (before after : List ℕ) → after ≡ wordsAfter ws xs lent before → answer .number ≡ 0 → hexLines (take (answer .words) after) ≡ networkText ws xs
+  pub network-lines : (before after : List ℕ) → after ≡ wordsAfter ws xs lent before → answer .fault .number ≡ 0 → hexLines (take (answer .words) after) ≡ networkText ws xs
   unfolding networkText
   network-lines before after e h =
       let c = clear-of h in
       let front : take (answer .words) after ≡ fileWords ws xs = rw (e, is) (fronts ws xs lent c .words before) in
-      rw (front, eq-eqb (compiled ws xs lent .number) 0 c)
+      rw (front, eq-eqb (compiled ws xs lent .fault .number) 0 c)
 
-  pub network-refused : (answer .number ≡ 0 → ⊥) → refusedLine (answer .number) (answer .place) ≡ networkText ws xs
+  pub network-refused : (answer .fault .number ≡ 0 → ⊥) → refusedLine (answer .fault .number) (answer .fault .place) ≡ networkText ws xs
   unfolding networkText
   network-refused h =
-      let n : compiled ws xs lent .number ≡ 0 → ⊥ = λ z. h (ap (λ a. a .number) is ∙ z) in
-      rw (is, ne-eqb (compiled ws xs lent .number) 0 n)
+      let n : compiled ws xs lent .fault .number ≡ 0 → ⊥ = λ z. h (ap (λ a. a .fault .number) is ∙ z) in
+      rw (is, ne-eqb (compiled ws xs lent .fault .number) 0 n)
 
 -- the text for the bytes of the input
 module _ (bytes : List ℕ) (right : Bool) (is : right ≡ formed bytes) where
@@ -107,11 +107,11 @@ lines-length ws = length-each 9 (length ws) _ (λ i. length-line (getD ws i 0))
 
 network-fits : (ws : List ℕ) (xs : List Float) → length (networkText ws xs) ≤ 4608
 unfolding networkText
-network-fits ws xs = go (eqb (compiled ws xs lent .number) 0) refl
+network-fits ws xs = go (eqb (compiled ws xs lent .fault .number) 0) refl
   where
-    go : (b : Bool) → eqb (compiled ws xs lent .number) 0 ≡ b → length (cond b (hexLines (fileWords ws xs)) (refusedLine (compiled ws xs lent .number) (compiled ws xs lent .place))) ≤ 4608
+    go : (b : Bool) → eqb (compiled ws xs lent .fault .number) 0 ≡ b → length (cond b (hexLines (fileWords ws xs)) (refusedLine (compiled ws xs lent .fault .number) (compiled ws xs lent .fault .place))) ≤ 4608
     go true e = omega (arith, lines-length (fileWords ws xs), compiled-exactly ws xs lent .0 (eqb-true _ 0 e) .1 .words)
-    go false e = omega (arith, refused-fits (compiled ws xs lent .number) (compiled ws xs lent .place))
+    go false e = omega (arith, refused-fits (compiled ws xs lent .fault .number) (compiled ws xs lent .fault .place))
 
 pub output-fits : (bytes : List ℕ) → length (output bytes) ≤ 4608
 unfolding output

@@ -48,8 +48,8 @@ lent = replicate 7 512
 -- what is printed for a network: the model words, or the refusal
 unfoldable pub networkText : List ℕ → List Float → List ℕ
 networkText ws xs =
-    let answer = compiled ws xs lent in
-    cond (eqb (answer .number) 0) (hexLines (fileWords ws xs)) (refusedLine (answer .number) (answer .place))
+    let fault = compiled ws xs lent .fault in
+    cond (eqb (fault .number) 0) (hexLines (fileWords ws xs)) (refusedLine (fault .number) (fault .place))
 
 -- what is printed for the bytes of standard input
 unfoldable pub output : List ℕ → List ℕ

@@ -48,10 +48,10 @@ fn put_network(words: &[u32], numbers: &[f64], text: &mut [u8]) -> usize
 {
     let mut model_words = [0u32; 512];
     let answer = compile_words(words, numbers, &mut model_words);
-    if answer.number == 0 {
+    if answer.fault.number == 0 {
         return put_hex_lines(text, &model_words, answer.words);
     }
-    put_refused(text, answer.number, answer.place)
+    put_refused(text, answer.fault.number, answer.fault.place)
 }
 
 fn put_output(input: &[u8], text: &mut [u8]) -> usize

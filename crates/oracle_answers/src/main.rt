@@ -265,10 +265,10 @@ fn columns_at(bytes: &[u8], at: usize, i: usize) -> usize
 
 // Whether number, place, counts and objective constant are the record's.
 fn model_answer_right(bytes: &[u8], at: usize, answer: Compiled) -> bool {
-    if answer.number != word(bytes, at, 4) {
+    if answer.fault.number != word(bytes, at, 4) {
         return false;
     }
-    if answer.place != number(bytes, at, 5) {
+    if answer.fault.place != number(bytes, at, 5) {
         return false;
     }
     if answer.words != number(bytes, at, 6) {

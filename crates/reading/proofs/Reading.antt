@@ -8,7 +8,7 @@ use Prim.Native.Nat.{ℕ, _^_, _<_}
 use native.Mathlib.Omega.{arith}
 use lib.ListN.{length, getD}
 use lib.Ieee.{Float}
-use Rattle.base.specs.Fault.{fault, clear, packed}
+use Rattle.base.specs.Fault.{clear, packed}
 use Rattle.base.proofs.Loops.{all-at}
 use Rattle.float.specs.Doubles.{Doubles}
 use Rattle.nl.specs.Expr.{count}
@@ -43,7 +43,7 @@ module _ (ws : List ℕ) (xs : List Float) where
   written-reads accepted = rw (count-constants ws xs) (reads-as ws xs (fileWords ws xs) (modelConstants (model ws xs)) (columns ws) (written-stands accepted))
 
   -- 2. The same through compile's answer, where it refuses nothing, whatever lengths were lent and whatever the lists of words and constants held before.
-  pub compiled-reads : Doubles xs → (lent : List ℕ) → compiled ws xs lent .number ≡ 0 → (heldWords : List ℕ) (heldConstants : List Float)
+  pub compiled-reads : Doubles xs → (lent : List ℕ) → compiled ws xs lent .fault .number ≡ 0 → (heldWords : List ℕ) (heldConstants : List Float)
       → ReadsAs (frontWords ws xs lent heldWords) (frontBits ws xs lent heldConstants) (compiled ws xs lent .constants) (compiled ws xs lent .columns) (compiled ws xs lent .rows) ws xs
   compiled-reads doubles lent e heldWords heldConstants =
       let accepted = compiled-exactly ws xs lent .0 e .0 in
@@ -55,21 +55,21 @@ module _ (ws : List ℕ) (xs : List Float) where
 
   -- 3. The same of a call of compile, from its contract: the first three hypotheses are the clauses of its `ensures`, in their order, with the lists at entry and at
   -- exit, and the fourth is that it refuses nothing.
-  pub compile-read : (before after : Lists) (r : Compiled) → r ≡ compiled ws xs (lent before) → Held ws xs before after → Doubles xs → r .number ≡ 0 → FileReads r after ws xs
+  pub compile-read : (before after : Lists) (r : Compiled) → r ≡ compiled ws xs (lent before) → Held ws xs before after → Doubles xs → r .fault .number ≡ 0 → FileReads r after ws xs
   compile-read before after r is held doubles e =
       rw (is, held .words, held .constants) (compiled-reads doubles (lent before) (rw is at e) (before .words) (before .constants))
 
   -- The same across the C boundary: the clauses of fervoulk_compile's `ensures`, and that it answers 0. The counts are those of the getters, numbers of `sized`.
-  pub compile-model-read : (before after : Lists) (r : ℕ) → r ≡ packed (fault (compiled ws xs (lent before) .number) (compiled ws xs (lent before) .place)) → Held ws xs before after
+  pub compile-model-read : (before after : Lists) (r : ℕ) → r ≡ packed (compiled ws xs (lent before) .fault) → Held ws xs before after
       → Doubles xs → r ≡ 0 → FileReads (sized ws xs) after ws xs
   compile-model-read before after r is held doubles e =
       let c = compiled ws xs (lent before) in
-      let z : packed (fault (c .number) (c .place)) ≡ 0 = sym is ∙ e in
-      let n : c .number ≡ 0 = omega (arith, z) in
+      let z : packed (c .fault) ≡ 0 = sym is ∙ e in
+      let n : c .fault .number ≡ 0 = omega (arith, z) in
       rw (← told ws xs (lent before) n) (compile-read before after c refl held doubles n)
 
   -- 4. The five counts of its answer are the model's.
-  pub model-counts : (lent : List ℕ) → compiled ws xs lent .number ≡ 0
+  pub model-counts : (lent : List ℕ) → compiled ws xs lent .fault .number ≡ 0
       → (compiled ws xs lent .words ≡ length (modelWords (model ws xs))) × (compiled ws xs lent .constants ≡ length (modelConstants (model ws xs))) × (compiled ws xs lent .columns ≡ columns ws)
       × (compiled ws xs lent .rows ≡ count (model ws xs .rows)) × (compiled ws xs lent .shared ≡ count (model ws xs .shared))
   unfolding fileWords
@@ -87,7 +87,7 @@ module _ (ws : List ℕ) (xs : List Float) where
 -- 6. "Any two files .. have equal words and bitwise equal constants exactly when they stand for the same shared parts, rows and objective", where compile wrote both.
 -- (`same` of `ReadsAs` has it for a file that compile wrote and any other that passes reading.)
 module _ (ws ws′ : List ℕ) (xs xs′ : List Float) (doubles : Doubles xs) (doubles′ : Doubles xs′) where
-  pub same-networks : (lent lent′ : List ℕ) → compiled ws xs lent .number ≡ 0 → compiled ws′ xs′ lent′ .number ≡ 0
+  pub same-networks : (lent lent′ : List ℕ) → compiled ws xs lent .fault .number ≡ 0 → compiled ws′ xs′ lent′ .fault .number ≡ 0
       → (heldWords heldWords′ : List ℕ) (heldConstants heldConstants′ : List Float)
       → ((frontWords ws xs lent heldWords ≡ frontWords ws′ xs′ lent′ heldWords′) × (frontBits ws xs lent heldConstants ≡ frontBits ws′ xs′ lent′ heldConstants′)) ↔ (model ws xs ≡ model ws′ xs′)
   same-networks lent lent′ e e′ heldWords heldWords′ heldConstants heldConstants′ =

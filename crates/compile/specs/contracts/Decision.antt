@@ -11,6 +11,6 @@ use Rattle.compile.specs.declared.decide.Decision.the-variants.{Refused,
 
 -- the answer, where the seven lists have the lengths `lent`
 abbrev pub Decides : List ℕ → List Float → List ℕ → Decision → Type 0
-Decides ws xs lent (Refused answer) = (answer ≡ compiled ws xs lent) × (answer .number ≡ 0 → ⊥)
+Decides ws xs lent (Refused answer) = (answer ≡ compiled ws xs lent) × (answer .fault .number ≡ 0 → ⊥)
 Decides ws xs lent (Accepted answer layout tallies) =
-    (answer ≡ compiled ws xs lent) × (answer .number ≡ 0) × Laid ws xs layout × Tallied ws xs tallies
+    (answer ≡ compiled ws xs lent) × (answer .fault .number ≡ 0) × Laid ws xs layout × Tallied ws xs tallies

@@ -1,5 +1,5 @@
 use mathlib.Core.Path.{ap, _∙_}
-use Rattle.base.specs.Fault.{fault, packed}
+use Rattle.base.specs.Fault.{packed}
 use borrow.Author.Needs.{needs}
 use Rattle.compile.proofs.boundary.fervoulk_compile.Statement.{statement}
 use Rattle.compile.proofs.boundary.fervoulk_compile.Tie as tie
@@ -33,7 +33,7 @@ same-length-7 c = search needs
 
 returns : tie.Need-returns
 returns c =
-    let packed-is = c .packed .ensures ∙ ap (λ a. packed (fault (a .number) (a .place))) (c .before .before .before .before .before .before .before .before .before .before .before .before .before .before .before .compile .ensures .0) in
+    let packed-is = c .packed .ensures ∙ ap (λ a. packed (a .fault)) (c .before .before .before .before .before .before .before .before .before .before .before .before .before .before .before .compile .ensures .0) in
     let is = c .before .before .before .before .before .before .before .before .before .before .before .before .before .before .before .compile .ensures in
     (packed-is, is .1, is .2)
 
