@@ -6,7 +6,7 @@ use Prim.Native.Nat.{ℕ, _+_, _-_, _*_, _≤_, _<_}
 use native.Mathlib.Omega.{arith}
 use lib.Ieee.{Float, neg, lt}
 use lib.ListN.{length, getD, take, drop}
-use Rattle.base.proofs.Loops.{tally-counts, tally-le}
+use Rattle.base.proofs.Loops.{tally-counts}
 use Rattle.float.specs.Number.{_⊖_, _⊘_, absolute, maximum, zero64, one64}
 use Rattle.fdlibm.specs.Hypot.{hypotenuse}
 use Rattle.bounds.specs.Bounds.{huge64, positiveViolation}
@@ -93,11 +93,6 @@ module _ {ws : List ℕ} {xs : List Float} {l : Layout} {g : ℕ} {r : Generator
       → next ≡ largestWhere (g + 1) (curved ws) (epigraphOff ws xs x)
   epigraph-turn x {before} {most} {next} L e f h =
       where-next (curved ws) (epigraphOff ws xs x) g most next f (h ∙ rw (G .is, e, ap (λ z. z .buses) (L .words .is), ap (λ z. z .generators) (L .words .is)))
-
--- the epigraph columns before a generator are at most the generators before it
-pub epigraphs-le : (ws : List ℕ) (g : ℕ) → epigraphsBefore ws g ≤ g
-unfolding epigraphsBefore
-epigraphs-le ws g = tally-le g _
 
 -- ---- what the residuals' functions say is the definitions'
 

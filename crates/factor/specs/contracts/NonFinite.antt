@@ -39,7 +39,8 @@ module _ (ws : List ℕ) (xs : List Float) where
 
   unfoldable pub epigraphsFactor : ℕ → Fault
   epigraphsFactor place =
-      first (generators ws) (λ g. unless (not (curved ws g) || isFinite (epigraphStart ws xs g)) (fault FACTOR (place + epigraphColumn ws g)))
+      first (generators ws) (λ g. unless (not (curved ws g) || isFinite (epigraphStart ws xs g))
+      (fault FACTOR (place + epigraphColumn ws g)))
 
   -- what follows the branches' coefficients: the curves' constants, the objective constant, the epigraphs' starts
   abbrev pub curvesOn : Fault

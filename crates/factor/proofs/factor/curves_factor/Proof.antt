@@ -55,7 +55,8 @@ unfolding curvesFactor
 returns c =
     let inv = c .before .before .before .before .before .before .before .before .loop .inv in
     let g = ap (λ l. l .generators) (c .before .before .before .before .before .before .before .before .before .before .before .before .pre .0 .words .is) in
-    let turn = c .before .before .curve-fault .ensures ∙ curve-read (c .before .before .before .before .before .before .before .before .before .before .before .before .args .start) (c .before .before .before .before .generator-of .ensures) (c .before .before .before .row-segments .ensures .0) (inv .1) in
+    let count = c .before .before .before .row-segments .ensures .0 in
+    let turn = c .before .before .curve-fault .ensures ∙ curve-read (c .before .before .before .before .before .before .before .before .before .before .before .before .args .start) (c .before .before .before .before .generator-of .ensures) count (inv .1) in
     first-here _ _ _ _ (rw (← g) (c .before .before .before .before .before .if1 .taken)) (inv .3) turn (c .if2 .taken)
 
 mul-place : tie.Need-mul-place Inv-loop μ-loop

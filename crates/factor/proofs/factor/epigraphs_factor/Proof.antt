@@ -57,7 +57,8 @@ returns c =
     let pre = c .before .before .before .before .before .before .before .before .before .before .before .before .before .before .pre in
     let inv = c .before .before .before .before .before .before .before .before .loop .inv in
     let g = ap (λ l. l .generators) (pre .0 .words .is) in
-    let turn = c .before .before .epigraph-fault .ensures ∙ epigraph-read (c .before .before .before .before .before .before .before .before .before .before .before .before .before .before .args .start) (pre .0) (c .before .before .before .before .generator-of .ensures) (c .before .before .before .epigraph-start .ensures) (inv .1) in
+    let value = c .before .before .before .epigraph-start .ensures in
+    let turn = c .before .before .epigraph-fault .ensures ∙ epigraph-read (c .before .before .before .before .before .before .before .before .before .before .before .before .before .before .args .start) (pre .0) (c .before .before .before .before .generator-of .ensures) value (inv .1) in
     first-here _ _ _ _ (rw (← g) (c .before .before .before .before .before .if1 .taken)) (inv .2) turn (c .if2 .taken)
 
 counted-requires : tie.Need-counted-requires Inv-loop μ-loop
@@ -83,7 +84,8 @@ loop-again c =
     let read = c .before .before .before .before .before .before .generator-of .ensures in
     let next = c .next-generator .ensures in
     let column = args .start + (2 * args .layout .buses + 2 * args .layout .generators) in
-    let turn = c .before .before .before .before .epigraph-fault .ensures ∙ epigraph-read (args .start) (c .before .before .before .before .before .before .before .before .before .before .before .before .before .before .before .before .pre .0) read (c .before .before .before .before .before .epigraph-start .ensures) (inv .1) in (
+    let value = c .before .before .before .before .before .epigraph-start .ensures in
+    let turn = c .before .before .before .before .epigraph-fault .ensures ∙ epigraph-read (args .start) (c .before .before .before .before .before .before .before .before .before .before .before .before .before .before .before .before .pre .0) read value (inv .1) in (
       next .0,
       rw (next .1) (column-read column read (c .before .counted .ensures .0) (inv .1)),
       rw (next .1) (first-step _ _ _ (inv .2) turn (c .before .before .if2 .left)),

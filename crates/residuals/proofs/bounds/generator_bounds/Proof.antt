@@ -6,7 +6,8 @@ use Rattle.float.specs.Number.{maximum}
 use Rattle.network.specs.Layout.{Standing}
 use Rattle.residuals.specs.contracts.Section.{outside, generatorLower, generatorUpper, largestWith}
 use Rattle.residuals.proofs.Section.{with-none, with-next}
-use Rattle.residuals.proofs.Room.{bounds-turn, point-length, epigraphs-le}
+use Rattle.acopf.proofs.Tallied.{epigraphs-le}
+use Rattle.residuals.proofs.Room.{bounds-turn, point-length}
 use Rattle.residuals.proofs.bounds.generator_bounds.Statement.{statement}
 use Rattle.residuals.proofs.bounds.generator_bounds.Tie as tie
 

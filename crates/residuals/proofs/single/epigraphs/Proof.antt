@@ -4,10 +4,10 @@ use mathlib.Core.Path.{_≡_, sym, ap}
 use Prim.Native.Nat.{_-_}
 use Rattle.network.specs.Network.{generators, curved, epigraphsBefore}
 use Rattle.network.specs.Layout.{Standing}
-use Rattle.factor.proofs.Steps.{epigraphs-none, epigraphs-turn}
+use Rattle.acopf.proofs.Tallied.{epigraphs-none, epigraphs-le, epigraphs-turn}
 use Rattle.residuals.specs.Residuals.{largestWhere, epigraphs}
 use Rattle.residuals.proofs.Section.{where-none}
-use Rattle.residuals.proofs.Room.{epigraphs-le, epigraphOff, epigraph-room, epigraph-turn}
+use Rattle.residuals.proofs.Room.{epigraphOff, epigraph-room, epigraph-turn}
 use Rattle.residuals.proofs.single.epigraphs.Statement.{statement}
 use Rattle.residuals.proofs.single.epigraphs.Tie as tie
 
@@ -106,7 +106,7 @@ loop-again c =
     let G = c .before .before .before .before .before .generator-of .ensures in
     let e = c .next-generator .ensures .1 in (
       c .next-generator .ensures .0,
-      rw e (epigraphs-turn _ _ (ap (λ z. z .curved) (G .is)) (c .before .counted .ensures .0) (loop .inv .1)),
+      rw e (epigraphs-turn G (c .before .counted .ensures .0) (loop .inv .1)),
       rw e (epigraph-turn G (args .point .now) (pre .laid) (loop .inv .1) (loop .inv .2) (c .before .before .epigraph .ensures)),
     )
 
