@@ -24,7 +24,7 @@ use Rattle.acopf.specs.Rows.{rows}
 use Rattle.acopf.specs.Factor.{constants64}
 use Rattle.acopf.proofs.Counts.{length-shared}
 use Rattle.acopf.proofs.Tallied.{few}
-use Rattle.factor.proofs.Sizes.{objectiveConstants, objectiveWords, count-rows, count-of-constants, count-of-words}
+use Rattle.acopf.proofs.Sizes.{objectiveConstants, objectiveWords, count-rows, count-of-constants, count-of-words}
 use Rattle.compile.specs.declared.Compiled.{Compiled}
 use Rattle.compile.specs.Compile.{accepted}
 

@@ -1,3 +1,2 @@
-pub mod NonFinite
 pub mod Judged
 pub mod contracts
