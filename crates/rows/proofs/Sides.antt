@@ -2,23 +2,22 @@
 use Prim.Native.Nat.{ℕ, zero, suc, _+_, _*_, _≤_}
 use native.Mathlib.Omega.{arith}
 use mathlib.Core.Path.{_≡_, refl, sym, ap, ap₂, _∙_}
-use mathlib.Core.Bool.{Bool, true, false, cond}
+use mathlib.Core.Bool.{Bool, true, false}
 use mathlib.Core.List.{List, [], _∷_, _++_, map, map-append, append-assoc}
 use lib.ListN.{length, length-append, replicate}
 use lib.Ieee.{Float}
-use Rattle.base.specs.Loop.{loop, table, each, keep, tally}
-use Rattle.base.proofs.Loops.{Every, AllFrom, every-append, every-table, every-each, every-keep, every-cond, length-table, length-keep, tally-bit}
+use Rattle.base.specs.Loop.{loop, table, each, keep}
+use Rattle.base.proofs.Loops.{Every, AllFrom, every-append, every-table, every-each, every-keep, every-cond, length-table, length-kept}
 use Rattle.float.specs.Number.{zero64}
 use Rattle.bounds.specs.Bounds.{huge64}
 use Rattle.network.specs.declared.layout.Layout.{Layout}
 use Rattle.network.specs.Layout.{Laid, branchRecord}
 use Rattle.network.specs.Network.{buses, generators, branches, references, angled, curved, segments}
 use Rattle.acopf.specs.declared.tallies.Tallies.{Tallies}
-use Rattle.acopf.specs.Parts.{pFrom, qFrom, pTo, qTo}
-use Rattle.acopf.specs.Rows.{Row, balanceRow, pBalance, qBalance, referenceRow, angleRow, rated, thermalRow, thermalRows, segmentRow, segmentRows, rows, rowLower, rowUpper}
-use Rattle.acopf.specs.Tallies.{segmentsBefore, Tallied}
+use Rattle.acopf.specs.Rows.{Row, balanceRow, pBalance, qBalance, referenceRow, angleRow, rated, thermalRows, segmentRow, segmentRows, rows, rowLower, rowUpper}
+use Rattle.acopf.specs.Tallies.{Tallied}
 use Rattle.acopf.proofs.Counts.{lower-rows, upper-rows}
-use Rattle.acopf.proofs.Tallied.{tally-none}
+use Rattle.acopf.proofs.Sizes.{count-rows}
 use Rattle.rows.specs.contracts.Bounds.{angleBound, angleBounds, rowBounds}
 use Rattle.rows.specs.declared.Side.{Side}
 use Rattle.rows.specs.declared.Side.the-variants.{Lower, Upper}
@@ -71,45 +70,21 @@ module _ (ws : List ℕ) (xs : List Float) where
         length-table (references ws) (referenceRow ws xs),
       )
 
-  -- two a rated branch
-  length-thermals : (m : ℕ) → length (each m (thermalRows ws xs)) ≡ 2 * tally m (rated ws xs)
-  unfolding loop each thermalRows
-  length-thermals zero = omega (arith, tally-none (rated ws xs))
-  length-thermals (suc m) =
-      let from-row = thermalRow ws xs m (pFrom ws m) (qFrom ws m) in
-      let to-row = thermalRow ws xs m (pTo ws m) (qTo ws m) in
-      omega (
-        arith,
-        length-append (each m (thermalRows ws xs)) (thermalRows ws xs m),
-        length-append (keep (rated ws xs m) from-row) (keep (rated ws xs m) to-row),
-        length-keep (rated ws xs m) from-row,
-        length-keep (rated ws xs m) to-row,
-        tally-bit m (rated ws xs),
-        length-thermals m,
-      )
-
-  -- one a segment
-  length-segments : (k : ℕ) → length (each k (segmentRows ws xs)) ≡ segmentsBefore ws k
-  unfolding loop each segmentRows segmentsBefore
-  length-segments zero = refl
-  length-segments (suc k) =
-      length-append (each k (segmentRows ws xs)) (segmentRows ws xs k) ∙ ap₂ (λ x y. x + y) (length-segments k) (one (curved ws k))
-    where
-      one : (b : Bool) → length (cond b (table (segments ws k) (segmentRow ws xs k)) []) ≡ cond b (segments ws k) 0
-      one true = length-table (segments ws k) (segmentRow ws xs k)
-      one false = refl
-
   module _ {layout : Layout} {tallies : Tallies} (L : Laid ws xs layout) (T : Tallied ws xs tallies) where
     in-balances : length balances ≡ 2 * layout .buses + layout .references
     in-balances = rw (L .words .is) length-balances
 
+    -- what the row count leaves
     in-margins : length margins ≡ 2 * tallies .rated + tallies .segments
     in-margins =
         omega (
           arith,
-          length-append (each (branches ws) (thermalRows ws xs)) (each (generators ws) (segmentRows ws xs)),
-          length-thermals (branches ws),
-          length-segments (generators ws),
+          ap length in-three,
+          length-append (balances ++ angles) margins,
+          length-append balances angles,
+          length-balances,
+          length-kept (branches ws) (angled ws) (angleRow ws xs),
+          count-rows ws xs,
           T .of-rated,
           T .of-segments,
         )
