@@ -34,14 +34,13 @@ pub zero-within : Within zero64
 unfolding lt ofBits
 zero-within = refl
 
--- the three answers of `checked`
-one-of-three : (n : ℕ) (r s t : Checked) → r .number ≡ 0 → s .number ≡ 16 → t .number ≡ n → cond (eqb n 0) r (cond (eqb n 16) s t) .number ≡ n
-one-of-three n r s t hr hs ht = go (eqb n 0) (eqb n 16) refl refl
+-- the two answers of `checked`
+one-of-two : (n : ℕ) (r s : Checked) → r .fault .number ≡ 0 → s .fault .number ≡ n → cond (eqb n 0) r s .fault .number ≡ n
+one-of-two n r s hr hs = go (eqb n 0) refl
   where
-    go : (a b : Bool) → eqb n 0 ≡ a → eqb n 16 ≡ b → cond a r (cond b s t) .number ≡ n
-    go true b p q = hr ∙ sym (eqb-true n 0 p)
-    go false true p q = hs ∙ sym (eqb-true n 16 q)
-    go false false p q = ht
+    go : (a : Bool) → eqb n 0 ≡ a → cond a r s .fault .number ≡ n
+    go true p = hr ∙ sym (eqb-true n 0 p)
+    go false p = hs
 
 -- ---- the theorem
 
@@ -149,12 +148,12 @@ module _ (ws : List ℕ) (xs x : List Float) (solver : Float) where
     accepted-exactly = (accepted-means, λ a. check-proper lent (means-accepted a))
 
     -- the answer's number is the refusal's
-    answer-number : checked ws xs x solver lent .number ≡ checkFault ws xs x solver lent .number
+    answer-number : checked ws xs x solver lent .fault .number ≡ checkFault ws xs x solver lent .number
     unfolding checked checkFault
-    answer-number = one-of-three (faultOf ws xs x solver lent S .number) _ _ _ refl refl refl
+    answer-number = one-of-two (faultOf ws xs x solver lent S .number) _ _ refl refl
 
     -- the answer is 0 exactly where all of it holds
-    pub answered-exactly : (checked ws xs x solver lent .number ≡ 0) ↔ Accepted ws xs x solver lent
+    pub answered-exactly : (checked ws xs x solver lent .fault .number ≡ 0) ↔ Accepted ws xs x solver lent
     answered-exactly = (λ e. accepted-means (check-proper lent (sym answer-number ∙ e)), λ a. answer-number ∙ means-accepted a)
 
 -- the parts of a violation, and of what is cut off at 0

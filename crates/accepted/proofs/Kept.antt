@@ -208,7 +208,7 @@ module _ (ws : List ℕ) (xs x : List Float) (solver : Float) (lent : ℕ) where
       (λ c. let A = e .0 c in (A .sound, accepted-kept ws xs x solver lent A), λ h. e .1 (kept-accepted (h .0) (h .1)))
 
   -- and so for the answer
-  pub answered-exactly-kept : (checked ws xs x solver lent .number ≡ 0) ↔ (Sound ws xs x solver lent × Kept ws xs x solver)
+  pub answered-exactly-kept : (checked ws xs x solver lent .fault .number ≡ 0) ↔ (Sound ws xs x solver lent × Kept ws xs x solver)
   answered-exactly-kept =
       let e = answered-exactly ws xs x solver lent in
       (λ c. let A = e .0 c in (A .sound, accepted-kept ws xs x solver lent A), λ h. e .1 (kept-accepted (h .0) (h .1)))

@@ -9,7 +9,8 @@ use lib.Ieee.{Float, nan, lt, le}
 use Rattle.base.specs.Fault.{clear}
 use Rattle.float.specs.Number.{_⊖_, _⊘_, zero64, one64, isFinite, absolute, maximum, AllFinite}
 use Rattle.fdlibm.specs.Hypot.{hypotenuse}
-use Rattle.network.specs.Network.{buses, generators, branches, references, from, to, angled, referred, curved, columns, angleMin, angleMax, sMax}
+use Rattle.network.specs.Network.{buses, generators, branches, references, from, to, angled, referred, curved, columns}
+use Rattle.network.specs.Network.{angleMin, angleMax, sMax}
 use Rattle.bounds.specs.Bounds.{angleRight, positiveViolation}
 use Rattle.acopf.specs.Curve.{curveValue}
 use Rattle.acopf.specs.Columns.{columnLower, columnUpper}
@@ -54,9 +55,11 @@ pub record Kept (ws : List ℕ) (xs x : List Float) (solver : Float) : Type 0 wh
   -- angle limits: how far it is above an active angle_max
   pub angle-upper : (b : ℕ) → b < branches ws → angled ws b ≡ true → AtMost (va ws x (from ws b) ⊖ va ws x (to ws b) ⊖ angleMax ws xs b)
   -- thermal limits: how far the hypotenuse of the flows at the from end is above an active s_max above 0
-  pub rating-from : (b : ℕ) → b < branches ws → rated ws xs b ≡ true → AtMost (hypotenuse (pFrom (flows ws xs x) b) (qFrom (flows ws xs x) b) ⊖ sMax ws xs b)
+  pub rating-from : (b : ℕ) → b < branches ws → rated ws xs b ≡ true
+      → AtMost (hypotenuse (pFrom (flows ws xs x) b) (qFrom (flows ws xs x) b) ⊖ sMax ws xs b)
   -- thermal limits: how far the hypotenuse of the flows at the to end is above it
-  pub rating-to : (b : ℕ) → b < branches ws → rated ws xs b ≡ true → AtMost (hypotenuse (pTo (flows ws xs x) b) (qTo (flows ws xs x) b) ⊖ sMax ws xs b)
+  pub rating-to : (b : ℕ) → b < branches ws → rated ws xs b ≡ true
+      → AtMost (hypotenuse (pTo (flows ws xs x) b) (qTo (flows ws xs x) b) ⊖ sMax ws xs b)
   -- epigraph: how far a curve's value is above its epigraph column
   pub curve : (g : ℕ) → g < generators ws → curved ws g ≡ true → AtMost (curveValue ws xs g (pg ws x g) ⊖ epigraph ws x g)
   -- objective difference over max(1, absolute objective)
@@ -72,11 +75,14 @@ pub record Accepted (ws : List ℕ) (xs x : List Float) (solver : Float) (lent :
   pub active : (i : ℕ) → i < buses ws → Within (absolute (pBalance ws xs x (flows ws xs x) i))
   pub reactive : (i : ℕ) → i < buses ws → Within (absolute (qBalance ws xs x (flows ws xs x) i))
   -- every column is in its bounds, every reference angle is 0, every active angle bound and every rating is kept
-  pub bounds : (j : ℕ) → j < columns ws → Within (positiveViolation (getD x j nan) (getD (columnLower ws xs) j nan) (getD (columnUpper ws xs) j nan))
+  pub bounds : (j : ℕ) → j < columns ws
+      → Within (positiveViolation (getD x j nan) (getD (columnLower ws xs) j nan) (getD (columnUpper ws xs) j nan))
   pub reference : (r : ℕ) → r < references ws → Within (absolute (va ws x (referred ws r)))
-  pub angle : (b : ℕ) → b < branches ws → angled ws b ≡ true → Within (positiveViolation (va ws x (from ws b) ⊖ va ws x (to ws b)) (angleMin ws xs b) (angleMax ws xs b))
+  pub angle : (b : ℕ) → b < branches ws → angled ws b ≡ true
+      → Within (positiveViolation (va ws x (from ws b) ⊖ va ws x (to ws b)) (angleMin ws xs b) (angleMax ws xs b))
   pub rating : (b : ℕ) → b < branches ws → rated ws xs b ≡ true
-      → Within (maximum (maximum (hypotenuse (pFrom (flows ws xs x) b) (qFrom (flows ws xs x) b)) (hypotenuse (pTo (flows ws xs x) b) (qTo (flows ws xs x) b)) ⊖ sMax ws xs b) zero64)
+      → Within (maximum (maximum (hypotenuse (pFrom (flows ws xs x) b) (qFrom (flows ws xs x) b))
+      (hypotenuse (pTo (flows ws xs x) b) (qTo (flows ws xs x) b)) ⊖ sMax ws xs b) zero64)
   -- every epigraph column reaches its curve, and the solver's objective is the point's
   pub curve : (g : ℕ) → g < generators ws → curved ws g ≡ true → Within (maximum (curveValue ws xs g (pg ws x g) ⊖ epigraph ws x g) zero64)
   pub objective : Within (absolute (solver ⊖ ownObjective ws xs x) ⊘ maximum (absolute (ownObjective ws xs x)) one64)

@@ -84,7 +84,7 @@ compileRefuses ws xs number place =
 unfoldable answers : List ℕ → List Float → List Float → Float → ℕ → ℕ → Float → List Float → Bool
 answers ws xs x solver number place objective residuals =
     let r = checked ws xs x solver 512 in
-    eqb (r .number) number && eqb (r .place) place && eqb (toBits binary64 (r .objective)) (toBits binary64 objective)
+    eqb (r .fault .number) number && eqb (r .fault .place) place && eqb (toBits binary64 (r .objective)) (toBits binary64 objective)
     && sameList (bits (r .residuals)) (bits residuals)
 
 unfoldable finds : List ℕ → ℕ → ℕ → ℕ → ℕ → ℕ → List ℕ → Bool

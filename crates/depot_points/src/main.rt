@@ -45,9 +45,10 @@ fn show(words: &[u32], pmin: f64, pmax: f64, point: &[f64], solver: f64) {
         solver,
         &mut outputs,
     );
+    let fault = answer.fault;
     let residuals = answer.residuals;
-    print(answer.number as u64);
-    print(answer.place as u64);
+    print(fault.number as u64);
+    print(fault.place as u64);
     print(float::to_bits(answer.objective));
     print(float::to_bits(residuals[0]));
     print(float::to_bits(outputs[0]));

@@ -1,5 +1,5 @@
 pub mod Outputs
 pub mod Scratch
 pub mod NonFinite
-pub mod Sums
+pub mod Ready
 pub mod Turns

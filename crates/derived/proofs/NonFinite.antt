@@ -1,49 +1,25 @@
 -- Laws of the first number that is not finite: in the front of a list, and in lists one after the other.
-use mathlib.Core.Path.{_≡_, refl, sym, _∙_}
+use mathlib.Core.Path.{_≡_, sym, _∙_}
 use mathlib.Core.List.{List, _++_}
-use mathlib.Core.Bool.{Bool, true, false, cond}
 use Prim.Native.Nat.{ℕ, zero, suc, _+_, _<_, _≤_}
 use native.Mathlib.Nat.{zero-add, add-zero}
 use native.Mathlib.Omega.{arith}
 use lib.Ieee.{Float, nan}
 use lib.ListN.{length, getD, take, length-append, List·getD-append}
 use lib.Seq.{getD-take, getD-append-add, length-take-le}
-use lib.Dec.{eqb}
-use borrow.Author.Tests.{eqb-true}
 use Rattle.base.specs.declared.Fault.{Fault}
-use Rattle.base.specs.Fault.{clear, fault, unless, orElse, first}
+use Rattle.base.specs.Fault.{fault, unless, orElse, first}
 use Rattle.base.specs.Loop.{loop}
 use Rattle.base.proofs.Firsts.{Proper, unless-proper, first-proper}
+use Rattle.base.proofs.Scans.{or-none, or-assoc, first-same}
 use Rattle.float.specs.Number.{isFinite}
 use Rattle.acopf.specs.Factor.{firstNonFinite}
 use Rattle.derived.specs.contracts.Scratch.{nonFiniteFrom}
 
-or-clear-right : (f : Fault) → Proper f → orElse f clear ≡ f
-unfolding orElse
-or-clear-right f p = go (eqb (f .number) 0) refl
-  where
-    go : (b : Bool) → eqb (f .number) 0 ≡ b → cond b clear f ≡ f
-    go true e = sym (p (eqb-true (f .number) 0 e))
-    go false e = refl
-
-or-assoc : (f g h : Fault) → orElse (orElse f g) h ≡ orElse f (orElse g h)
-unfolding orElse
-or-assoc f g h = go (eqb (f .number) 0) refl
-  where
-    go : (b : Bool) → eqb (f .number) 0 ≡ b → cond (eqb (cond b g f .number) 0) h (cond b g f) ≡ cond b (cond (eqb (g .number) 0) h g) f
-    go true e = refl
-    go false e = rw e
-
--- the same faults at each place below n
-pub first-same : (n : ℕ) (f g : ℕ → Fault) → ((i : ℕ) → i < n → f i ≡ g i) → first n f ≡ first n g
-unfolding first loop
-first-same zero f g h = refl
-first-same (suc n) f g h = rw (h n (omega arith), first-same n f g (λ i l. h i (omega arith)))
-
 -- m, then n more
 pub first-sum : (m n : ℕ) (f : ℕ → Fault) → ((i : ℕ) → Proper (f i)) → first (m + n) f ≡ orElse (first m f) (first n (λ i. f (m + i)))
 unfolding first loop
-first-sum m zero f p = rw add-zero (sym (or-clear-right (first m f) (first-proper m f p)))
+first-sum m zero f p = rw add-zero (sym (or-none (first m f) (first-proper m f p)))
 first-sum m (suc n) f p =
     let e : m + suc n ≡ suc (m + n) = omega arith in
     rw (e, first-sum m n f p) (or-assoc (first m f) (first n (λ i. f (m + i))) (f (m + n)))

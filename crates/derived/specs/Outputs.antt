@@ -7,7 +7,8 @@ use lib.Dec.{eqb}
 use lib.Ieee.{Float, nan, neg}
 use Rattle.base.specs.Loop.{loop, table}
 use Rattle.float.specs.Number.{_⊕_, _⊖_, _⊗_, zero64, half64}
-use Rattle.network.specs.Network.{buses, generators, branches, costs, busOf, from, to, curved, vaColumn, vmColumn, pgColumn, qgColumn, epigraphColumn, pD, qD, gS, bS, costQ, costC, cost0}
+use Rattle.network.specs.Network.{buses, generators, branches, costs, busOf, from, to, curved}
+use Rattle.network.specs.Network.{vaColumn, vmColumn, pgColumn, qgColumn, epigraphColumn, pD, qD, gS, bS, costQ, costC, cost0}
 use Rattle.acopf.specs.Curve.{curveValue}
 use Rattle.acopf.specs.Flow.{flow}
 

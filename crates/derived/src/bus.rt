@@ -19,7 +19,7 @@ ghost use Rattle.derived.specs.Outputs.{pg, qg, injected, withdrawn, pFr
 ghost use Rattle.derived.specs.contracts.Scratch.{VoltagesAre, pDemand, qDemand, InjectionsAre, FlowsAre};
 
 // The real part, then the imaginary part.
-pub fn voltages(point: &[f64], layout: Layout, list: &mut [f64])
+pub(crate) fn voltages(point: &[f64], layout: Layout, list: &mut [f64])
     requires { ⌜ (2 * layout .buses ≤ length (now point)) × (2 * layout .buses ≤ length (now list)) × (layout .buses ≤ mostBuses) ⌝ }
     ensures { λ r. ⌜ ((ws : List ℕ) → layout .buses ≡ buses ws → VoltagesAre ws (now (point .entry)) layout (now (list .exit))) ⌝ }
 {
@@ -70,7 +70,13 @@ fn generation(words: &[u32], numbers: &[f64], point: &[f64], layout: Layout, lis
     }
 }
 
-pub fn injections(words: &[u32], numbers: &[f64], point: &[f64], layout: Layout, list: &mut [f64])
+pub(crate) fn injections(
+    words: &[u32],
+    numbers: &[f64],
+    point: &[f64],
+    layout: Layout,
+    list: &mut [f64],
+)
     requires { ⌜ (Ready (now words) (now numbers) (now point) layout) × (2 * layout .buses ≤ length (now list)) ⌝ }
     ensures { λ r. ⌜ (InjectionsAre (now (words .entry)) (now (numbers .entry)) (now (point .entry)) layout (now (list .exit)))
         × (Kept (2 * layout .buses) (now (list .entry)) (now (list .exit))) ⌝ }

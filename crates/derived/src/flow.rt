@@ -30,7 +30,13 @@ fn flow_of(words: &[u32], numbers: &[f64], layout: Layout, voltages: &[f64], b: 
 }
 
 // Writes the flows where they stand among the outputs.
-pub fn flows(words: &[u32], numbers: &[f64], layout: Layout, voltages: &[f64], list: &mut [f64])
+pub(crate) fn flows(
+    words: &[u32],
+    numbers: &[f64],
+    layout: Layout,
+    voltages: &[f64],
+    list: &mut [f64],
+)
     requires { ⌜ (Laid (now words) (now numbers) layout) × (2 * layout .buses ≤ length (now voltages))
         × (2 * layout .buses + 4 * layout .branches ≤ length (now list)) ⌝ }
     ensures { λ r. ⌜ (let ws = now (words .entry) in let xs = now (numbers .entry) in let n = layout .buses in let m = layout .branches in

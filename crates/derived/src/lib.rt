@@ -1,17 +1,14 @@
-// What validate_primal works out from a point: voltages, flows, injections, balances, the objective and the outputs; refusal 15.
+// What validate_primal works out from a point: voltages, flows, injections, balances and the outputs; refusal 15.
 mod bus;
-mod cost;
+mod fill;
 mod finite;
 mod flow;
 mod write;
 
 pub use bus::balances;
-pub use bus::injections;
-pub use bus::voltages;
-pub use cost::own_objective;
+pub use fill::fill_outputs;
 pub use finite::derived_fault;
 pub use finite::first_non_finite;
-pub use flow::flows;
 use network::MOST_BRANCHES;
 use network::MOST_BUSES;
 pub use write::copy_front;

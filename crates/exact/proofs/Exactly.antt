@@ -10,7 +10,7 @@ use lib.IntN.{_-ℤ_}
 use lib.Ieee.{Float, nan, inf, fin, binary64, fits, lt, le, eq, ofBits, sub, add, neg}
 use lib.Ieee.Bits.{ofBits-fits}
 use lib.Ieee.Fits.{sub-fits}
-use Rattle.base.specs.Fault.{fault, packed}
+use Rattle.base.specs.Fault.{packed}
 use Rattle.base.proofs.Loops.{Block, tally-counts}
 use Rattle.float.specs.Number.{_⊖_, zero64, isFinite}
 use Rattle.float.specs.Doubles.{Doubles}
@@ -170,11 +170,11 @@ module _ (ws : List ℕ) (xs x : List Float) (solver : Float) (lent : ℕ) (D : 
 
   -- ---- where the check answers 0
 
-  pub answered-keeps-exactly : checked ws xs x solver lent .number ≡ 0 → KeptExactly ws xs x solver tolerances
+  pub answered-keeps-exactly : checked ws xs x solver lent .fault .number ≡ 0 → KeptExactly ws xs x solver tolerances
   answered-keeps-exactly z = let h = answered-exactly-kept ws xs x solver lent .0 z in kept-exactly (h .0) (h .1)
 
   -- and the one number that the check gives across the C boundary
-  pub obeyed-keeps-exactly : packed (fault (checked ws xs x solver lent .number) (checked ws xs x solver lent .place)) ≡ 0 → KeptExactly ws xs x solver tolerances
+  pub obeyed-keeps-exactly : packed (checked ws xs x solver lent .fault) ≡ 0 → KeptExactly ws xs x solver tolerances
   obeyed-keeps-exactly z = let h = obeyed-exactly ws xs x solver lent .0 z in kept-exactly (h .0) (h .1)
 
 -- ---- the ratings, with the table's tolerance
@@ -188,15 +188,15 @@ module _ (ws : List ℕ) (xs x : List Float) (solver : Float) where
   rating-exact E b l on = (E .rating-from b l on .usual (large (size (sMax ws xs b))), E .rating-to b l on .usual (large (size (sMax ws xs b))))
 
   module _ (lent : ℕ) (D : Doubles xs) (P : Doubles x) (O : T (fits binary64 solver)) where
-    pub rating-answered : checked ws xs x solver lent .number ≡ 0 → RatingsExact ws xs x tiny64
+    pub rating-answered : checked ws xs x solver lent .fault .number ≡ 0 → RatingsExact ws xs x tiny64
     rating-answered z = rating-exact (answered-keeps-exactly ws xs x solver lent D P O z)
 
-    pub rating-obeyed : packed (fault (checked ws xs x solver lent .number) (checked ws xs x solver lent .place)) ≡ 0 → RatingsExact ws xs x tiny64
+    pub rating-obeyed : packed (checked ws xs x solver lent .fault) ≡ 0 → RatingsExact ws xs x tiny64
     rating-obeyed z = rating-exact (obeyed-keeps-exactly ws xs x solver lent D P O z)
 
   -- of a call: the clauses of the contract of `fervoulk_check`, with r its answer and `before` the output list at entry, and that r is 0
   pub check-keeps-exactly : (r : ℕ) (before : List Float)
-      → r ≡ packed (fault (checked ws xs x solver (length before) .number) (checked ws xs x solver (length before) .place))
+      → r ≡ packed (checked ws xs x solver (length before) .fault)
       → Doubles xs → Doubles x → T (fits binary64 solver) → r ≡ 0 → KeptExactly ws xs x solver tolerances × RatingsExact ws xs x tiny64
   check-keeps-exactly r before is D P O z =
       let E = obeyed-keeps-exactly ws xs x solver (length before) D P O (sym is ∙ z) in

@@ -1,5 +1,5 @@
--- What an accepted point keeps in exact numbers. A finite double is a whole number of units of 2^-1074 (`units`, `size`, `above` and `excess`
--- of rounding specs/Units), so that each sentence here is one about whole numbers, and nothing in it is rounded.
+-- What an accepted point keeps in exact numbers. A finite double is a whole number of units of 2^-1074 (`units`, `size`, `above` and
+-- `excess` of rounding specs/Units), so that each sentence here is one about whole numbers, and nothing in it is rounded.
 -- Flows, balances and the values of curves are those that the check works out: how far they are from exact ones is not said here.
 use Prim.Native.Nat.{ℕ, _+_, _*_, _^_, _≤_, _<_, max}
 use mathlib.Core.Path.{_≡_}
@@ -11,7 +11,8 @@ use lib.Ieee.{Float, nan}
 use Rattle.float.specs.Number.{_⊖_, one64, isFinite, absolute, maximum}
 use Rattle.rounding.specs.Units.{units, size, above, excess}
 use Rattle.hypot_error.specs.Exact.{exactSquare, Upper}
-use Rattle.network.specs.Network.{buses, generators, branches, references, from, to, angled, referred, curved, columns, angleMin, angleMax, sMax}
+use Rattle.network.specs.Network.{buses, generators, branches, references, from, to, angled, referred, curved, columns}
+use Rattle.network.specs.Network.{angleMin, angleMax, sMax}
 use Rattle.acopf.specs.Curve.{curveValue}
 use Rattle.acopf.specs.Columns.{columnLower, columnUpper}
 use Rattle.acopf.specs.Rows.{rated}

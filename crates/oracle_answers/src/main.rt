@@ -1,5 +1,6 @@
 // Replays the original Rust's answers of data/answers (tests/differential/src/bin/store.rs says how a record is laid out and how they were
 // chosen) through compile and the check, and prints how many there are and for how many the answer or a list is another.
+use base::Fault;
 use compile::Compiled;
 use libc::STDOUT_FILENO;
 use little_endian::bits_at;
@@ -125,11 +126,11 @@ fn residuals_right(bytes: &[u8], at: usize, residuals: [f64; 8]) -> bool {
 }
 
 // Whether number, place and objective are the record's.
-fn answer_right(bytes: &[u8], at: usize, given: u32, place: usize, objective: f64) -> bool {
-    if given != word(bytes, at, 6) {
+fn answer_right(bytes: &[u8], at: usize, fault: Fault, objective: f64) -> bool {
+    if fault.number != word(bytes, at, 6) {
         return false;
     }
-    if place != number(bytes, at, 7) {
+    if fault.place != number(bytes, at, 7) {
         return false;
     }
     same_bits(objective, value(bytes, at, 9))
@@ -151,7 +152,7 @@ fn check_right(
     let solver = value(bytes, at, 8);
     let answer = validate::check(words, numbers, point, solver, &mut list[..lent]);
     let residuals = answer.residuals;
-    if !answer_right(bytes, at, answer.number, answer.place, answer.objective) {
+    if !answer_right(bytes, at, answer.fault, answer.objective) {
         return false;
     }
     if !residuals_right(bytes, at, residuals) {

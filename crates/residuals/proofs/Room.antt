@@ -1,16 +1,15 @@
 -- One turn of each loop of the residuals, in the code's terms: every index is in range, and what the turn adds is the definition's.
-use mathlib.Core.Path.{_≡_, sym, ap, _∙_}
-use mathlib.Core.Bool.{Bool, true, cond, _&&_}
+use mathlib.Core.Path.{_≡_, _∙_}
+use mathlib.Core.Bool.{Bool, cond, _&&_}
 use mathlib.Core.List.{List, [], _∷_, _++_}
-use Prim.Native.Nat.{ℕ, _+_, _-_, _*_, _≤_, _<_}
+use Prim.Native.Nat.{ℕ, _+_, _*_, _≤_}
 use native.Mathlib.Omega.{arith}
 use lib.Ieee.{Float, neg, lt}
 use lib.ListN.{length, getD, take, drop}
-use Rattle.base.proofs.Loops.{tally-counts}
 use Rattle.float.specs.Number.{_⊖_, _⊘_, absolute, maximum, zero64, one64}
 use Rattle.fdlibm.specs.Hypot.{hypotenuse}
 use Rattle.bounds.specs.Bounds.{huge64, positiveViolation}
-use Rattle.network.specs.Network.{buses, generators, branches, from, to, angled, curved, epigraphsBefore, columns, number, angleMin, angleMax, sMax}
+use Rattle.network.specs.Network.{buses, branches, from, to, angled, epigraphsBefore, columns, number, angleMin, angleMax, sMax}
 use Rattle.network.specs.Word.{branchLimited}
 use Rattle.network.specs.declared.layout.Layout.{Layout}
 use Rattle.network.specs.declared.records.Bus.{Bus}
@@ -19,10 +18,9 @@ use Rattle.network.specs.declared.records.Branch.{Branch}
 use Rattle.network.specs.Layout.{busRecord, Laid, GeneratorRead, BranchRead}
 use Rattle.network.proofs.Form.{branch-word}
 use Rattle.acopf.specs.Columns.{vmLower, vmUpper}
-use Rattle.acopf.specs.Curve.{evaluate, curveValue}
 use Rattle.acopf.specs.Rows.{rated}
 use Rattle.derived.specs.contracts.Agree.{PerBus, Ready}
-use Rattle.derived.specs.Outputs.{va, pg, epigraph, ownObjective, withdrawn, pInjection, qInjection, pFrom, qFrom, pTo, qTo, flows}
+use Rattle.derived.specs.Outputs.{va, ownObjective, withdrawn, pInjection, qInjection, pFrom, qFrom, pTo, qTo, flows}
 use Rattle.derived.specs.contracts.Scratch.{FlowsAre, Held}
 use Rattle.derived.proofs.Scratch.{per-bus-copied}
 use Rattle.residuals.specs.Residuals.{largest, largestWhere, pBalance, qBalance, activeBalance, reactiveBalance, variableBounds, referenceAngles, angleLimits, thermalLimits, epigraphs, objectiveDifference, residuals}
@@ -72,27 +70,11 @@ pub vm-turn : (ws : List ℕ) (xs : List Float) (i : ℕ) {r : Bus} (v : Float) 
 unfolding vmLower vmUpper
 vm-turn ws xs i v e = rw e
 
--- what a generator adds to residual 7
-abbrev pub epigraphOff : List ℕ → List Float → List Float → ℕ → Float
-epigraphOff ws xs x g = maximum (curveValue ws xs g (pg ws x g) ⊖ epigraph ws x g) zero64
-
 module _ {ws : List ℕ} {xs : List Float} {l : Layout} {g : ℕ} {r : Generator} (G : GeneratorRead ws xs l g r) where
   pub bounds-turn : (active : Bool) (v lower upper : Float) → lower ≡ cond (r .bounded) (cond active (r .«p_min») (r .«q_min»)) (neg huge64)
       → upper ≡ cond (r .bounded) (cond active (r .«p_max») (r .«q_max»)) huge64
       → positiveViolation v lower upper ≡ positiveViolation v (generatorLower ws xs active g) (generatorUpper ws xs active g)
   bounds-turn active v lower upper e h = rw (e, h, G .is)
-
-  pub epigraph-room : {x : List Float} {before : ℕ} → Ready ws xs x l → before ≡ epigraphsBefore ws g → g < l .generators → r .curved ≡ true
-      → 2 * l .buses + 2 * l .generators + before < length x
-  unfolding epigraphsBefore
-  epigraph-room R e h c = omega (arith, point-length R, e, tally-counts g (l .generators) (curved ws) (sym (ap (λ z. z .curved) (G .is)) ∙ c) h)
-
-  pub epigraph-turn : (x : List Float) {before : ℕ} {most next : Float} → Laid ws xs l → before ≡ epigraphsBefore ws g → most ≡ largestWhere g (curved ws) (epigraphOff ws xs x)
-      → next ≡ cond (r .curved)
-      (maximum most (maximum (evaluate xs (r .curve) (r .points - 1) (number x (2 * l .buses + g)) ⊖ number x (2 * l .buses + 2 * l .generators + before)) zero64)) most
-      → next ≡ largestWhere (g + 1) (curved ws) (epigraphOff ws xs x)
-  epigraph-turn x {before} {most} {next} L e f h =
-      where-next (curved ws) (epigraphOff ws xs x) g most next f (h ∙ rw (G .is, e, ap (λ z. z .buses) (L .words .is), ap (λ z. z .generators) (L .words .is)))
 
 -- ---- what the residuals' functions say is the definitions'
 
@@ -116,13 +98,13 @@ unfolding residuals
 residuals-are ws xs x fs solver a b c d e f g h p q r s t u v w = rw (p, q, r, s, t, u, v, w)
 
 -- the balances, from a copy of the injections, by what `balances` says of its list
-pub balanced : {ws : List ℕ} {xs x : List Float} {l : Layout} {own : Float} (scratch blank copy list : List Float) → Held ws xs x l scratch own
+pub balanced : {ws : List ℕ} {xs x : List Float} {l : Layout} (scratch blank copy list : List Float) → Held ws xs x l scratch
     → copy ≡ take (2 * l .buses) scratch ++ drop (2 * l .buses) blank → 2 * l .buses ≤ length list
     → ((fs : List (List Float)) (p q : ℕ → Float) → FlowsAre fs (l .buses) (l .branches) (l .branches) scratch → PerBus (l .buses) (l .buses) p q copy
     → PerBus (l .buses) (l .buses) (λ i. withdrawn ws i (pFrom fs) (pTo fs) (p i)) (λ i. withdrawn ws i (qFrom fs) (qTo fs) (q i)) list)
     → Balanced ws xs x l list
 unfolding pBalance qBalance
-balanced {ws} {xs} {x} {l} {own} scratch blank copy list H e k f = record {
+balanced {ws} {xs} {x} {l} scratch blank copy list H e k f = record {
   room = k;
   balances-are = f (flows ws xs x) (pInjection ws xs x) (qInjection ws xs x) (H .flows-are) (rw e (per-bus-copied scratch blank (omega (arith, H .room)) (H .injections-are)));
 }

@@ -41,6 +41,12 @@ module _ (t : ℕ → Bool) (f : ℕ → Float) where
   unfolding largestWhere loop
   where-next i most here e h = rw (add-one, h, e)
 
+  -- where none passes the test
+  pub where-never : (n : ℕ) → ((i : ℕ) → t i ≡ false) → zero64 ≡ largestWhere n t f
+  unfolding largestWhere loop
+  where-never zero h = refl
+  where-never (suc n) h = rw (h n) (where-never n h)
+
 -- ---- equal members make equal largests
 
 pub with-same : (start : Float) (n : ℕ) (f g : ℕ → Float) → ((i : ℕ) → i < n → f i ≡ g i) → largestWith start n f ≡ largestWith start n g

@@ -7,7 +7,8 @@ use lib.Ieee.{Float, nan}
 use Rattle.base.specs.Loop.{loop}
 use Rattle.float.specs.Number.{_⊖_, _⊘_, zero64, one64, absolute, maximum}
 use Rattle.fdlibm.specs.Hypot.{hypotenuse}
-use Rattle.network.specs.Network.{buses, generators, branches, references, from, to, angled, referred, curved, columns, angleMin, angleMax, sMax}
+use Rattle.network.specs.Network.{buses, generators, branches, references, from, to, angled, referred, curved, columns}
+use Rattle.network.specs.Network.{angleMin, angleMax, sMax}
 use Rattle.bounds.specs.Bounds.{positiveViolation}
 use Rattle.acopf.specs.Curve.{curveValue}
 use Rattle.acopf.specs.Columns.{columnLower, columnUpper}

@@ -1,11 +1,11 @@
 // All eight residuals of a point.
-use crate::bounds::variable_bounds;
+use crate::cost::Costs;
 use crate::single::angle_limits;
 use crate::single::balance_residual;
-use crate::single::epigraphs;
 use crate::single::objective_difference;
 use crate::single::reference_angles;
 use crate::single::thermal_limits;
+use crate::variable::variable_bounds;
 use derived::MOST_PER_BUS;
 use derived::balances;
 use derived::copy_front;
@@ -14,10 +14,10 @@ ghost use mathlib.Core.Path.{_≡_};
 ghost use Rattle.derived.specs.contracts.Agree.{Ready};
 ghost use Rattle.derived.specs.Outputs.{flows};
 ghost use Rattle.derived.specs.contracts.Scratch.{Held};
-ghost use Rattle.residuals.specs.contracts.Derived.{Balanced};
+ghost use Rattle.residuals.specs.contracts.Derived.{CostsAre, Balanced};
 ghost use Rattle.residuals.specs.Residuals.{residuals};
 
-// `scratch` holds the outputs, `balance` the balances.
+// `scratch` holds the outputs, `balance` the balances, `costs` the own objective and residual 7.
 fn residuals_of(
     words: &[u32],
     numbers: &[f64],
@@ -26,11 +26,12 @@ fn residuals_of(
     scratch: &[f64],
     balance: &[f64],
     solver: f64,
-    own: f64,
+    costs: Costs,
 ) -> [f64; 8]
     requires { ⌜ (Ready (now words) (now numbers) (now point) layout)
-        × (Held (now words) (now numbers) (now point) layout (now scratch) own)
-        × (Balanced (now words) (now numbers) (now point) layout (now balance)) ⌝ }
+        × (Held (now words) (now numbers) (now point) layout (now scratch))
+        × (Balanced (now words) (now numbers) (now point) layout (now balance))
+        × (CostsAre (now words) (now numbers) (now point) costs) ⌝ }
     ensures { λ r. ⌜ (let ws = now (words .entry) in let xs = now (numbers .entry) in let x = now (point .entry) in
         r ≡ residuals ws xs x (flows ws xs x) solver) ⌝ }
 {
@@ -48,8 +49,8 @@ fn residuals_of(
         reference,
         angle,
         thermal,
-        epigraphs(words, numbers, point, layout),
-        objective_difference(solver, own),
+        costs.epigraph,
+        objective_difference(solver, costs.objective),
     ]
 }
 
@@ -61,10 +62,11 @@ pub fn residuals_at(
     layout: Layout,
     scratch: &[f64],
     solver: f64,
-    own: f64,
+    costs: Costs,
 ) -> [f64; 8]
     requires { ⌜ (Ready (now words) (now numbers) (now point) layout)
-        × (Held (now words) (now numbers) (now point) layout (now scratch) own) ⌝ }
+        × (Held (now words) (now numbers) (now point) layout (now scratch))
+        × (CostsAre (now words) (now numbers) (now point) costs) ⌝ }
     ensures { λ r. ⌜ (let ws = now (words .entry) in let xs = now (numbers .entry) in let x = now (point .entry) in
         r ≡ residuals ws xs x (flows ws xs x) solver) ⌝ }
 {
@@ -79,6 +81,6 @@ pub fn residuals_at(
         scratch,
         &balance,
         solver,
-        own,
+        costs,
     )
 }

@@ -1,29 +1,23 @@
-// The residuals but for variable bounds: six are the largest of 0 and what each bus, reference, branch or curve is off by.
+// The residuals but for variable bounds and epigraph: five are the largest of 0 and what each bus, reference or branch is off by.
 use network::Branch;
-use network::Generator;
 use network::Layout;
 use network::branch_of;
-use network::first_generator;
-use network::generator_of;
-use network::next_generator;
 use network::reference_of;
 ghost use mathlib.Core.Path.{_≡_};
-ghost use mathlib.Core.Bool.{true, cond, _&&_};
+ghost use mathlib.Core.Bool.{cond, _&&_};
 ghost use mathlib.Core.List.{List};
-ghost use Prim.Native.Nat.{ℕ, _+_, _-_, _*_, _<_, _≤_};
+ghost use Prim.Native.Nat.{ℕ, _+_, _*_, _<_, _≤_};
 ghost use lib.Ieee.{Float, lt};
 ghost use lib.ListN.{length};
 ghost use Rattle.float.specs.Number.{_⊖_, _⊘_, zero64, one64, absolute, maximum};
 ghost use Rattle.fdlibm.specs.Hypot.{hypotenuse};
 ghost use Rattle.bounds.specs.Bounds.{positiveViolation};
-ghost use Rattle.network.specs.Limits.{pointNumbers, mostPoints};
 ghost use Rattle.network.specs.Network.{number};
 ghost use Rattle.network.specs.Word.{branchLimited};
 ghost use Rattle.network.specs.Layout.{LaidWords, Laid};
-ghost use Rattle.acopf.specs.Curve.{evaluate};
 ghost use Rattle.derived.specs.contracts.Agree.{At, Ready};
 ghost use Rattle.derived.specs.contracts.Scratch.{FlowsAre};
-ghost use Rattle.residuals.specs.Residuals.{largest, referenceAngles, angleLimits, thermalLimits, epigraphs};
+ghost use Rattle.residuals.specs.Residuals.{largest, referenceAngles, angleLimits, thermalLimits};
 
 // 1 active and 2 reactive balance: of n buses, from place `from` on.
 pub(crate) fn balance_residual(balance: &[f64], from: usize, n: usize) -> f64
@@ -88,7 +82,8 @@ pub(crate) fn angle_limits(words: &[u32], numbers: &[f64], point: &[f64], layout
 // The largest so far, and how far a branch with word w is above an active limit; from and to are p and q at either end.
 fn thermal_limit(w: u32, s_max: f64, from: [f64; 2], to: [f64; 2], most: f64) -> f64
     ensures { λ r. ⌜ r ≡ cond (branchLimited w && lt zero64 «s_max»)
-        (maximum most (maximum (maximum (hypotenuse (number from 0) (number from 1)) (hypotenuse (number to 0) (number to 1)) ⊖ «s_max») zero64))
+        (maximum most
+        (maximum (maximum (hypotenuse (number from 0) (number from 1)) (hypotenuse (number to 0) (number to 1)) ⊖ «s_max») zero64))
         most ⌝ }
 {
     let limited = network::branch_limited(w);
@@ -118,49 +113,6 @@ pub(crate) fn thermal_limits(words: &[u32], numbers: &[f64], layout: Layout, scr
         let to = [scratch[first + 2 * m + b], scratch[first + 3 * m + b]];
         most = thermal_limit(words[word + b], branch.s_max, from, to, most);
         b += 1;
-    }
-    most
-}
-
-// The largest so far, and how far a generator's curve is, at the power p, above its epigraph column.
-fn epigraph(
-    numbers: &[f64],
-    point: &[f64],
-    generator: Generator,
-    p: f64,
-    column: usize,
-    most: f64,
-) -> f64
-    requires { ⌜ (generator .curve + pointNumbers * generator .points ≤ length (now numbers)) × (generator .points ≤ mostPoints)
-        × (generator .curved ≡ true → column < length (now point)) ⌝ }
-    ensures { λ r. ⌜ (let value = evaluate (now (numbers .entry)) (generator .curve) (generator .points - 1) p in
-        r ≡ cond (generator .curved) (maximum most (maximum (value ⊖ number (now (point .entry)) column) zero64)) most) ⌝ }
-{
-    if generator.curved {
-        let value = acopf::curve_value(numbers, generator.curve, generator.points, p);
-        let over = value - point[column];
-        return float::maximum(most, float::maximum(over, 0.0));
-    }
-    most
-}
-
-// 7 epigraph.
-pub(crate) fn epigraphs(words: &[u32], numbers: &[f64], point: &[f64], layout: Layout) -> f64
-    requires { ⌜ Ready (now words) (now numbers) (now point) layout ⌝ }
-    ensures { λ r. ⌜ r ≡ epigraphs (now (words .entry)) (now (numbers .entry)) (now (point .entry)) ⌝ }
-{
-    let n = layout.buses;
-    let k = layout.generators;
-    let mut before = 0usize;
-    let mut most = 0.0;
-    let mut cursor = first_generator(words, layout);
-    while cursor.index < k {
-        let generator = generator_of(words, numbers, layout, cursor);
-        let column = 2 * n + 2 * k + before;
-        let pg = point[2 * n + cursor.index];
-        most = epigraph(numbers, point, generator, pg, column, most);
-        before = acopf::counted(before, generator.curved);
-        cursor = next_generator(words, layout, cursor);
     }
     most
 }

@@ -8,144 +8,172 @@ use lib.ListN.{length, take, drop, getD}
 use lib.Ieee.{Float, nan, lt}
 use borrow.Author.Tests.{eq-eqb, ne-eqb}
 use Rattle.base.specs.declared.Fault.{Fault}
-use Rattle.base.specs.Fault.{fault, unless, orElse, first}
+use Rattle.base.specs.Fault.{clear, fault, unless, orElse, first}
 use Rattle.base.proofs.Firsts.{Clear, or-go, or-stop}
+use Rattle.base.proofs.Scans.{or-assoc}
 use Rattle.float.specs.Number.{zero64}
-use Rattle.acopf.specs.Factor.{firstNonFinite, networkFault}
-use Rattle.validate.specs.declared.Checked.{Checked}
-use Rattle.validate.specs.Check.{tolerances, Solved, solved, faultOutput, faultPoint, faultSwing, faultDerived, faultResidual, checkFault, checked, outputsAfter}
 use Rattle.network.specs.Network.{buses, branches}
 use Rattle.network.specs.declared.layout.Layout.{Layout}
 use Rattle.network.specs.Layout.{Laid}
+use Rattle.acopf.specs.Factor.{firstNonFinite, networkFault}
 use Rattle.derived.specs.Outputs.{ownObjective, flows, outputs}
 use Rattle.derived.specs.contracts.Scratch.{Held}
 use Rattle.derived.proofs.Scratch.{front-outputs}
-use Rattle.residuals.specs.Residuals.{residuals}
-use Rattle.validate.specs.contracts.Verdict.{Cleared, refusal}
-use Rattle.validate.proofs.Order.{derived-spans, residual-spans, check-is}
 use Rattle.derived.proofs.Outputs.{length-outputs}
+use Rattle.residuals.specs.Residuals.{residuals}
+use Rattle.residuals.specs.declared.cost.Costs.{Costs}
+use Rattle.residuals.specs.contracts.Derived.{CostsAre}
+use Rattle.validate.specs.declared.Checked.{Checked}
+use Rattle.validate.specs.declared.measure.Measured.{Measured}
+use Rattle.validate.specs.Check.{tolerances, Solved, solved, faultOutput, faultPoint, faultSwing, faultDerived, faultResidual, checkFault, checked, outputsAfter}
+use Rattle.validate.specs.contracts.Verdict.{faultGiven, Cleared, Measures, refusal}
+use Rattle.validate.proofs.Order.{derived-spans, residual-spans, check-is}
 
--- 15 of the outputs and the two objectives
-pub derived-is : (ws : List ℕ) (xs x : List Float) (solver own : Float) (l : List Float) → l ≡ outputs ws xs x (flows ws xs x) → own ≡ ownObjective ws xs x
-    → firstNonFinite 15 (l ++ (solver ∷ own ∷ [])) ≡ faultDerived ws xs x solver (solved ws xs x solver)
-unfolding faultDerived solved
-derived-is ws xs x solver own l e f = rw (e, f)
+-- two for each bus and four for each branch
+pub count-is : {ws : List ℕ} {xs : List Float} {l : Layout} → Laid ws xs l → 2 * l .buses + 4 * l .branches ≡ 2 * buses ws + 4 * branches ws
+count-is L = omega (arith, ap (λ z. z .buses) (L .words .is), ap (λ z. z .branches) (L .words .is))
 
--- the whole list after an accepted point's outputs are written
-pub outputs-left : (ws : List ℕ) (xs x : List Float) (solver : Float) (n m : ℕ) (l before : List Float) → n ≡ buses ws → m ≡ branches ws
-    → l ≡ outputs ws xs x (flows ws xs x) → Clear (checkFault ws xs x solver (length before)) → l ++ drop (2 * n + 4 * m) before ≡ outputsAfter ws xs x solver before
-unfolding solved
-outputs-left ws xs x solver n m l before en em e c =
-    rw (e, en, em, eq-eqb _ 0 c, length-outputs ws xs x (flows ws xs x))
+-- ---- what is worked out from a point
+
+module _ {ws : List ℕ} {xs x : List Float} {l : Layout} {scratch : List Float} {c : Costs} {d : Fault} (solver : Float)
+    (L : Laid ws xs l) (H : Held ws xs x l scratch) (C : CostsAre ws xs x c)
+    (is : d ≡ firstNonFinite 15 (take (2 * l .buses + 4 * l .branches) scratch ++ (solver ∷ c .objective ∷ []))) where
+  front : take (2 * l .buses + 4 * l .branches) scratch ≡ outputs ws xs x (flows ws xs x)
+  front =
+      front-outputs ws xs x (flows ws xs x) (l .buses) (l .branches) scratch (ap (λ z. z .buses) (L .words .is)) (ap (λ z. z .branches) (L .words .is))
+      (H .room) (H .injections-are) (H .flows-are)
+
+  -- 15 of the outputs and the two objectives
+  derived : d ≡ faultDerived ws xs x solver (solved ws xs x solver)
+  unfolding faultDerived solved
+  derived = is ∙ rw (front, C .objective-is)
+
+  pub measures-15 : (none : List Float) → (d .number ≡ 0 → ⊥)
+      → Measures ws xs x solver l scratch (record { fault = d; objective = c .objective; residuals = none })
+  unfolding solved
+  measures-15 none n =
+      record { fault-is = derived; objective-is = C .objective-is; residuals-are = λ z. absurd (n z); outputs-are = front }
+
+  pub measures-0 : (r : List Float) → r ≡ residuals ws xs x (flows ws xs x) solver
+      → Measures ws xs x solver l scratch (record { fault = d; objective = c .objective; residuals = r })
+  unfolding solved
+  measures-0 r e = record { fault-is = derived; objective-is = C .objective-is; residuals-are = λ z. e; outputs-are = front }
+
+-- ---- the refusals in the code's order
 
 module _ (ws : List ℕ) (xs x : List Float) (solver : Float) where
   abbrev S : Solved
   S = solved ws xs x solver
 
+  chain : (lent : ℕ) → checkFault ws xs x solver lent
+      ≡ orElse (networkFault ws xs) (orElse (faultOutput ws xs x solver lent)
+      (orElse (faultGiven ws xs x solver) (orElse (faultDerived ws xs x solver S) (faultResidual ws xs x solver S))))
+  chain lent =
+      check-is ws xs x solver lent ∙ ap (λ f. orElse (networkFault ws xs) (orElse (faultOutput ws xs x solver lent) f))
+      (sym (or-assoc (faultPoint ws xs x solver) (faultSwing ws xs x solver) (orElse (faultDerived ws xs x solver S) (faultResidual ws xs x solver S))))
+
   -- a refusal f, of any number but 16
-  pub refused-is : (lent : ℕ) (f : Fault) → f ≡ checkFault ws xs x solver lent → (f .number ≡ 0 → ⊥) → (f .number ≡ 16 → ⊥) → refusal f ≡ checked ws xs x solver lent
+  pub refused-is : (lent : ℕ) (f : Fault) → f ≡ checkFault ws xs x solver lent → (f .number ≡ 0 → ⊥) → (f .number ≡ 16 → ⊥)
+      → refusal f ≡ checked ws xs x solver lent
   unfolding checked checkFault
   refused-is lent f e n l = rw (← e, ne-eqb (f .number) 0 n, ne-eqb (f .number) 16 l)
 
-  pub list-kept : (before : List Float) (f : Fault) → f ≡ checkFault ws xs x solver (length before) → (f .number ≡ 0 → ⊥) → before ≡ outputsAfter ws xs x solver before
+  pub list-kept : (before : List Float) (f : Fault) → f ≡ checkFault ws xs x solver (length before) → (f .number ≡ 0 → ⊥)
+      → before ≡ outputsAfter ws xs x solver before
   list-kept before f e n = rw (← e, ne-eqb (f .number) 0 n)
+
+  -- the whole list after an accepted point's outputs are written
+  outputs-left : (count : ℕ) (l before : List Float) → count ≡ 2 * buses ws + 4 * branches ws → l ≡ S .outputs
+      → Clear (checkFault ws xs x solver (length before)) → l ++ drop count before ≡ outputsAfter ws xs x solver before
+  unfolding solved
+  outputs-left count l before k e c = rw (e, k, eq-eqb _ 0 c, length-outputs ws xs x (flows ws xs x))
 
   -- ---- where 1 to 14 decide
 
   module _ (lent : ℕ) where
     pub by-network : (Clear (networkFault ws xs) → ⊥) → networkFault ws xs ≡ checkFault ws xs x solver lent
-    by-network n = sym (check-is ws xs x solver lent ∙ or-stop _ _ n)
+    by-network n = sym (chain lent ∙ or-stop _ _ n)
 
-    pub by-output : Clear (networkFault ws xs) → (Clear (faultOutput ws xs x solver lent) → ⊥) → faultOutput ws xs x solver lent ≡ checkFault ws xs x solver lent
-    by-output a n = sym (check-is ws xs x solver lent ∙ or-go _ _ a ∙ or-stop _ _ n)
+    pub by-output : Clear (networkFault ws xs) → (Clear (faultOutput ws xs x solver lent) → ⊥)
+        → faultOutput ws xs x solver lent ≡ checkFault ws xs x solver lent
+    by-output a n = sym (chain lent ∙ or-go _ _ a ∙ or-stop _ _ n)
 
-    pub by-point : Clear (networkFault ws xs) → Clear (faultOutput ws xs x solver lent) → (Clear (faultPoint ws xs x solver) → ⊥) → faultPoint ws xs x solver ≡ checkFault ws xs x solver lent
-    by-point a b n = sym (check-is ws xs x solver lent ∙ or-go _ _ a ∙ or-go _ _ b ∙ or-stop _ _ n)
-
-    pub by-swing : Clear (networkFault ws xs) → Clear (faultOutput ws xs x solver lent) → Clear (faultPoint ws xs x solver) → (Clear (faultSwing ws xs x solver) → ⊥)
-        → faultSwing ws xs x solver ≡ checkFault ws xs x solver lent
-    by-swing a b c n = sym (check-is ws xs x solver lent ∙ or-go _ _ a ∙ or-go _ _ b ∙ or-go _ _ c ∙ or-stop _ _ n)
+    pub by-given : Clear (networkFault ws xs) → Clear (faultOutput ws xs x solver lent) → (Clear (faultGiven ws xs x solver) → ⊥)
+        → faultGiven ws xs x solver ≡ checkFault ws xs x solver lent
+    by-given a b n = sym (chain lent ∙ or-go _ _ a ∙ or-go _ _ b ∙ or-stop _ _ n)
 
   -- ---- where they are clear
 
-  module _ (lent : ℕ) (C : Cleared ws xs x solver lent) where
+  module _ (lent : ℕ) (C : Cleared ws xs x solver (faultOutput ws xs x solver lent)) where
     rest : checkFault ws xs x solver lent ≡ orElse (faultDerived ws xs x solver S) (faultResidual ws xs x solver S)
-    rest = check-is ws xs x solver lent ∙ or-go _ _ (C .network) ∙ or-go _ _ (C .output) ∙ or-go _ _ (C .point) ∙ or-go _ _ (C .swing)
+    rest = chain lent ∙ or-go _ _ (C .network) ∙ or-go _ _ (C .lent) ∙ or-go _ _ (C .given)
 
-    pub by-derived : (Clear (faultDerived ws xs x solver S) → ⊥) → faultDerived ws xs x solver S ≡ checkFault ws xs x solver lent
+    by-derived : (Clear (faultDerived ws xs x solver S) → ⊥) → faultDerived ws xs x solver S ≡ checkFault ws xs x solver lent
     by-derived n = sym (rest ∙ or-stop _ _ n)
 
-    pub by-residual : Clear (faultDerived ws xs x solver S) → faultResidual ws xs x solver S ≡ checkFault ws xs x solver lent
+    by-residual : Clear (faultDerived ws xs x solver S) → faultResidual ws xs x solver S ≡ checkFault ws xs x solver lent
     by-residual d = sym (rest ∙ or-go _ _ d)
 
     -- 16: the residuals stay
-    pub residual-answer : (f : Fault) (r : List Float) → Clear (faultDerived ws xs x solver S) → f ≡ faultResidual ws xs x solver S → (f .number ≡ 0 → ⊥) → r ≡ S .residuals
-        → _≡_ {A = Checked} (record { number = f .number; place = f .place; objective = zero64; residuals = r }) (checked ws xs x solver lent)
+    residual-answer : (f : Fault) (r : List Float) → Clear (faultDerived ws xs x solver S) → f ≡ faultResidual ws xs x solver S
+        → (f .number ≡ 0 → ⊥) → r ≡ S .residuals
+        → _≡_ {A = Checked} (record { fault = f; objective = zero64; residuals = r }) (checked ws xs x solver lent)
     unfolding checked checkFault
     residual-answer f r d e n q =
         let s = residual-spans ws xs x solver S in
-        let m : f .number ≡ 16 = omega (arith, ap (λ g. g .number) e, s .low (λ z. n (ap (λ g. g .number) e ∙ z)), s .high (λ z. n (ap (λ g. g .number) e ∙ z))) in
+        let refuses : Clear (faultResidual ws xs x solver S) → ⊥ = λ z. n (ap (λ g. g .number) e ∙ z) in
+        let m : f .number ≡ 16 = omega (arith, ap (λ g. g .number) e, s .low refuses, s .high refuses) in
         let k : f ≡ checkFault ws xs x solver lent = e ∙ by-residual d in
         rw (← k, m, q)
 
     -- accepted
-    pub accepted-answer : (f : Fault) (r : List Float) (own : Float) → Clear (faultDerived ws xs x solver S) → f ≡ faultResidual ws xs x solver S → f .number ≡ 0 → r ≡ S .residuals → own ≡ S .objective
-        → _≡_ {A = Checked} (record { number = 0; place = 0; objective = own; residuals = r }) (checked ws xs x solver lent)
+    accepted-answer : (f : Fault) (r : List Float) (own : Float) → Clear (faultDerived ws xs x solver S) → f ≡ faultResidual ws xs x solver S
+        → f .number ≡ 0 → r ≡ S .residuals → own ≡ S .objective
+        → _≡_ {A = Checked} (record { fault = clear; objective = own; residuals = r }) (checked ws xs x solver lent)
     unfolding checked checkFault
     accepted-answer f r own d e n q o =
         let k : f ≡ checkFault ws xs x solver lent = e ∙ by-residual d in
         rw (← k, eq-eqb (f .number) 0 n, q, o)
 
--- ---- from the scratch list
+-- ---- the three ways out
 
-module _ {ws : List ℕ} {xs x : List Float} {l : Layout} {scratch : List Float} {own : Float} (L : Laid ws xs l) (H : Held ws xs x l scratch own) where
-  n-is : l .buses ≡ buses ws
-  n-is = ap (λ z. z .buses) (L .words .is)
-
-  m-is : l .branches ≡ branches ws
-  m-is = ap (λ z. z .branches) (L .words .is)
-
-  outputs-are : take (2 * l .buses + 4 * l .branches) scratch ≡ outputs ws xs x (flows ws xs x)
-  outputs-are = front-outputs ws xs x (flows ws xs x) (l .buses) (l .branches) scratch n-is m-is (H .room) (H .injections-are) (H .flows-are)
+module _ {ws : List ℕ} {xs x : List Float} {solver : Float} {l : Layout} {scratch : List Float} {m : Measured} (L : Laid ws xs l)
+    (M : Measures ws xs x solver l scratch m) (before : List Float) (C : Cleared ws xs x solver (faultOutput ws xs x solver (length before))) where
+  derived-clear : m .fault .number ≡ 0 → Clear (faultDerived ws xs x solver (solved ws xs x solver))
+  derived-clear z = ap (λ f. f .number) (sym (M .fault-is)) ∙ z
 
   -- 15
-  pub derived-of : (solver : Float) (d : Fault) → d ≡ firstNonFinite 15 (take (2 * l .buses + 4 * l .branches) scratch ++ (solver ∷ own ∷ []))
-      → d ≡ faultDerived ws xs x solver (solved ws xs x solver)
-  derived-of solver d is = is ∙ derived-is ws xs x solver own _ outputs-are (H .own-is)
-
--- the three ways out
-module _ {ws : List ℕ} {xs x : List Float} {l : Layout} {scratch : List Float} {own : Float} (L : Laid ws xs l) (H : Held ws xs x l scratch own) (solver : Float) (before : List Float)
-    (C : Cleared ws xs x solver (length before)) (d : Fault) (is : d ≡ firstNonFinite 15 (take (2 * l .buses + 4 * l .branches) scratch ++ (solver ∷ own ∷ []))) where
-  derived : d ≡ faultDerived ws xs x solver (solved ws xs x solver)
-  derived = derived-of L H solver d is
-
-  derived-clear : d .number ≡ 0 → Clear (faultDerived ws xs x solver (solved ws xs x solver))
-  derived-clear z = ap (λ f. f .number) (sym derived) ∙ z
-
-  -- 15
-  pub says-15 : (r : Checked) → r ≡ refusal d → (d .number ≡ 0 → ⊥) → (r ≡ checked ws xs x solver (length before)) × (before ≡ outputsAfter ws xs x solver before)
+  pub says-15 : (r : Checked) → r ≡ refusal (m .fault) → (m .fault .number ≡ 0 → ⊥)
+      → (r ≡ checked ws xs x solver (length before)) × (before ≡ outputsAfter ws xs x solver before)
   says-15 r e c =
-      let refuses : Clear (faultDerived ws xs x solver (solved ws xs x solver)) → ⊥ = λ z. c (ap (λ f. f .number) derived ∙ z) in
-      let k = derived ∙ by-derived ws xs x solver (length before) C refuses in
+      let refuses : Clear (faultDerived ws xs x solver (solved ws xs x solver)) → ⊥ = λ z. c (ap (λ f. f .number) (M .fault-is) ∙ z) in
+      let k = M .fault-is ∙ by-derived ws xs x solver (length before) C refuses in
       let high = derived-spans ws xs x solver (solved ws xs x solver) .high refuses in
-      (e ∙ refused-is ws xs x solver (length before) d k c (λ z. omega (arith, ap (λ f. f .number) derived, high)), list-kept ws xs x solver before d k c)
+      let other : m .fault .number ≡ 16 → ⊥ = λ z. omega (arith, ap (λ f. f .number) (M .fault-is), high) in
+      (e ∙ refused-is ws xs x solver (length before) (m .fault) k c other, list-kept ws xs x solver before (m .fault) k c)
 
-  -- 16
-  pub says-16 : (f : Fault) (r : List Float) → d .number ≡ 0 → r ≡ residuals ws xs x (flows ws xs x) solver
-      → f ≡ first 8 (λ i. unless (not (lt (getD tolerances i nan) (getD r i nan))) (fault 16 (i + 1))) → (f .number ≡ 0 → ⊥)
-      → (_≡_ {A = Checked} (record { number = f .number; place = f .place; objective = zero64; residuals = r }) (checked ws xs x solver (length before))) × (before ≡ outputsAfter ws xs x solver before)
-  unfolding faultResidual solved
-  says-16 f r z e k c =
-      let g : f ≡ faultResidual ws xs x solver (solved ws xs x solver) = rw e at k in
-      (residual-answer ws xs x solver (length before) C f r (derived-clear z) g c e, list-kept ws xs x solver before f (g ∙ by-residual ws xs x solver (length before) C (derived-clear z)) c)
+  module _ (z : m .fault .number ≡ 0) (f : Fault) (k : f ≡ first 8 (λ i. unless (not (lt (getD tolerances i nan) (getD (m .residuals) i nan))) (fault 16 (i + 1)))) where
+    residual : f ≡ faultResidual ws xs x solver (solved ws xs x solver)
+    unfolding faultResidual
+    residual = rw (M .residuals-are z) at k
 
-  -- accepted
-  pub says-0 : (f : Fault) (r after : List Float) → d .number ≡ 0 → r ≡ residuals ws xs x (flows ws xs x) solver
-      → f ≡ first 8 (λ i. unless (not (lt (getD tolerances i nan) (getD r i nan))) (fault 16 (i + 1))) → f .number ≡ 0
-      → after ≡ take (2 * l .buses + 4 * l .branches) scratch ++ drop (2 * l .buses + 4 * l .branches) before
-      → (_≡_ {A = Checked} (record { number = 0; place = 0; objective = own; residuals = r }) (checked ws xs x solver (length before))) × (after ≡ outputsAfter ws xs x solver before)
-  unfolding faultResidual solved
-  says-0 f r after z e k c a =
-      let g : f ≡ faultResidual ws xs x solver (solved ws xs x solver) = rw e at k in
-      let h : Clear (checkFault ws xs x solver (length before)) = ap (λ y. y .number) (sym (g ∙ by-residual ws xs x solver (length before) C (derived-clear z))) ∙ c in
-      (accepted-answer ws xs x solver (length before) C f r own (derived-clear z) g c e (H .own-is), a ∙ outputs-left ws xs x solver (l .buses) (l .branches) _ before (n-is L H) (m-is L H) (outputs-are L H) h)
+    whole : f ≡ checkFault ws xs x solver (length before)
+    whole = residual ∙ by-residual ws xs x solver (length before) C (derived-clear z)
+
+    -- 16
+    pub says-16 : (f .number ≡ 0 → ⊥)
+        → (_≡_ {A = Checked} (record { fault = f; objective = zero64; residuals = m .residuals }) (checked ws xs x solver (length before)))
+        × (before ≡ outputsAfter ws xs x solver before)
+    says-16 c =
+        (residual-answer ws xs x solver (length before) C f (m .residuals) (derived-clear z) residual c (M .residuals-are z), list-kept ws xs x solver before f whole c)
+
+    -- accepted
+    pub says-0 : (after : List Float) → f .number ≡ 0
+        → after ≡ take (2 * l .buses + 4 * l .branches) scratch ++ drop (2 * l .buses + 4 * l .branches) before
+        → (_≡_ {A = Checked} (record { fault = clear; objective = m .objective; residuals = m .residuals }) (checked ws xs x solver (length before)))
+        × (after ≡ outputsAfter ws xs x solver before)
+    says-0 after c a =
+        let h : Clear (checkFault ws xs x solver (length before)) = ap (λ y. y .number) (sym whole) ∙ c in (
+          accepted-answer ws xs x solver (length before) C f (m .residuals) (m .objective) (derived-clear z) residual c (M .residuals-are z) (M .objective-is),
+          a ∙ outputs-left ws xs x solver _ _ before (count-is L) (M .outputs-are) h,
+        )

@@ -6,7 +6,7 @@ use lib.ListN.{length, getD, replicate}
 use lib.Dec.{eqb, leb}
 use lib.Ieee.{Float, nan, binary64, ofBits, lt}
 use Rattle.base.specs.declared.Fault.{Fault}
-use Rattle.base.specs.Fault.{fault, unless, orElse, first, Section, section, firstOf, left}
+use Rattle.base.specs.Fault.{fault, clear, unless, orElse, first, Section, section, firstOf, left}
 use Rattle.base.specs.Refusal.{SHORT, POINT, SWING, DERIVED, RESIDUAL}
 use Rattle.float.specs.Number.{zero64}
 use Rattle.network.specs.Network.{buses, branches, columns, vaColumn}
@@ -81,9 +81,8 @@ module _ (ws : List ℕ) (xs x : List Float) (solver : Float) where
   checked lent =
       let s = solved in
       let f = faultOf lent s in
-      cond (eqb (f .number) 0) (record { number = 0; place = 0; objective = s .objective; residuals = s .residuals })
-      (cond (eqb (f .number) 16) (record { number = 16; place = f .place; objective = zero64; residuals = s .residuals })
-      (record { number = f .number; place = f .place; objective = zero64; residuals = replicate 8 zero64 }))
+      cond (eqb (f .number) 0) (record { fault = clear; objective = s .objective; residuals = s .residuals })
+      (record { fault = f; objective = zero64; residuals = cond (eqb (f .number) RESIDUAL) (s .residuals) (replicate 8 zero64) })
 
   -- the output list after the call, from what it held before: the outputs in front and the rest as it was, or all as it was
   abbrev pub outputsAfter : List Float → List Float
@@ -102,7 +101,8 @@ module _ (ws : List ℕ) (xs x : List Float) (solver : Float) where
   -- 12 to 15 in their order; a residual above its tolerance is no refusal
   abbrev pub reportSections : ℕ → Solved → List Section
   reportSections lent s =
-      section (SHORT ∷ []) (faultReport lent) ∷ section (POINT ∷ []) faultPoint ∷ section (SWING ∷ []) faultSwing ∷ section (DERIVED ∷ []) (faultDerived s) ∷ []
+      section (SHORT ∷ []) (faultReport lent) ∷ section (POINT ∷ []) faultPoint ∷ section (SWING ∷ []) faultSwing
+      ∷ section (DERIVED ∷ []) (faultDerived s) ∷ []
 
   -- 1 to 15 as the check's
   unfoldable pub residualsFault : ℕ → Fault

@@ -1,14 +1,13 @@
 // The check across the C boundary: each function returns one number of the answer, and leaves the output list as `check` does.
 use crate::primal::check;
 use crate::report::residuals;
-use base::Fault;
-use factor::network_fault;
-use network::sizes_of;
+use factor::Judged;
+use factor::judge;
 ghost use mathlib.Core.Path.{_≡_};
 ghost use lib.Dec.{T};
 ghost use lib.Ieee.{binary64, fits};
 ghost use lib.ListN.{length};
-ghost use Rattle.base.specs.Fault.{fault, packed};
+ghost use Rattle.base.specs.Fault.{packed};
 ghost use Rattle.float.specs.Doubles.{Doubles};
 ghost use Rattle.validate.specs.Check.{outputsNeeded, checked, outputsAfter, residualsFault, reportAfter};
 ghost use Rattle.validate.specs.contracts.Verdict.{residualAt};
@@ -18,12 +17,11 @@ ghost use Rattle.validate.specs.contracts.Verdict.{residualAt};
 pub extern "C" fn fervoulk_outputs(words: &[u32], numbers: &[f64]) -> usize
     ensures { λ r. ⌜ r ≡ outputsNeeded (now (words .entry)) (now (numbers .entry)) ⌝ }
 {
-    let refusal = network_fault(words, numbers);
-    if refusal.number != 0 {
-        return 0;
+    let judged = judge(words, numbers);
+    match judged {
+        Judged::Refused(_) => 0,
+        Judged::Sound(layout, _) => 2 * layout.buses + 4 * layout.branches,
     }
-    let sizes = sizes_of(words);
-    2 * sizes.buses + 4 * sizes.branches
 }
 
 // The refusal's number times 2 to the power 32 plus its place. What is handed in are doubles, as f64 are: with it, the number 0 says what
@@ -37,15 +35,12 @@ pub extern "C" fn fervoulk_check(
     outputs: &mut [f64],
 ) -> u64
     ensures { λ r. ⌜ (let ws = now (words .entry) in let xs = now (numbers .entry) in let x = now (point .entry) in
-        let before = now (outputs .entry) in let answer = checked ws xs x solver (length before) in
-        (r ≡ packed (fault (answer .number) (answer .place))) × (now (outputs .exit) ≡ outputsAfter ws xs x solver before)
+        let before = now (outputs .entry) in
+        (r ≡ packed (checked ws xs x solver (length before) .fault)) × (now (outputs .exit) ≡ outputsAfter ws xs x solver before)
         × Doubles xs × Doubles x × T (fits binary64 solver)) ⌝ }
 {
     let answer = check(words, numbers, point, solver, outputs);
-    base::packed(Fault {
-        number: answer.number,
-        place: answer.place,
-    })
+    base::packed(answer.fault)
 }
 
 #[no_mangle]

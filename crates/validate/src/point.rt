@@ -1,4 +1,5 @@
-// The number of columns, and refusals 12, short, 13, point, and 14, swing.
+// Refusals 12, short, 13, point, and 14, swing.
+use acopf::Tallies;
 use base::Fault;
 use base::refusal;
 use derived::first_non_finite;
@@ -11,17 +12,9 @@ ghost use lib.ListN.{length};
 ghost use Rattle.network.specs.Limits.{mostBuses, mostGenerators};
 ghost use Rattle.network.specs.Layout.{LaidWords};
 ghost use Rattle.network.specs.Network.{buses, branches, columns};
+ghost use Rattle.acopf.specs.Tallies.{Tallied};
 ghost use Rattle.validate.specs.Check.{faultOutput, faultPoint, faultSwing};
-
-// va, vm, pg, qg, then the epigraphs.
-pub(crate) fn columns_of(words: &[u32], layout: Layout) -> usize
-    requires { ⌜ LaidWords (now words) layout ⌝ }
-    ensures { λ r. ⌜ (r ≡ columns (now (words .entry))) × (r ≤ 2 * mostBuses + 3 * mostGenerators) ⌝ }
-{
-    let n = layout.buses;
-    let k = layout.generators;
-    2 * n + 2 * k + factor::epigraph_count(words, n, k, layout.costs)
-}
+ghost use Rattle.validate.specs.contracts.Verdict.{faultGiven};
 
 // 12, where there are `count` outputs.
 pub(crate) fn output_fault(lent: usize, count: usize) -> Fault
@@ -38,10 +31,11 @@ pub(crate) fn output_fault(lent: usize, count: usize) -> Fault
 }
 
 // 13, where the network has `needed` columns.
-pub(crate) fn point_fault(point: &[f64], needed: usize) -> Fault
+fn point_fault(point: &[f64], needed: usize) -> Fault
     requires { ⌜ needed < 0xffff_ffff_ffff_ffff ⌝ }
     ensures { λ r. ⌜ ((ws : List ℕ) (xs : List Float) (solver : Float) → needed ≡ columns ws
-        → r ≡ faultPoint ws xs (now (point .entry)) solver) ⌝ }
+        → r ≡ faultPoint ws xs (now (point .entry)) solver)
+        × (r .number ≡ 0 → length (now (point .entry)) ≡ needed) ⌝ }
 {
     if point.len() != needed {
         return Fault {
@@ -53,7 +47,7 @@ pub(crate) fn point_fault(point: &[f64], needed: usize) -> Fault
 }
 
 // 14: va is the first n columns.
-pub(crate) fn swing_fault(point: &[f64], n: usize) -> Fault
+fn swing_fault(point: &[f64], n: usize) -> Fault
     requires { ⌜ n ≤ length (now point) ⌝ }
     ensures { λ r. ⌜ ((ws : List ℕ) (xs : List Float) (solver : Float) → n ≡ buses ws
         → r ≡ faultSwing ws xs (now (point .entry)) solver) ⌝ }
@@ -69,4 +63,18 @@ pub(crate) fn swing_fault(point: &[f64], n: usize) -> Fault
         i += 1;
     }
     refusal::CLEAR
+}
+
+// 13, then 14. The columns are va, vm, pg, qg, then the epigraphs.
+pub(crate) fn given_fault(point: &[f64], layout: Layout, tallies: Tallies) -> Fault
+    requires { ⌜ (layout .buses ≤ mostBuses) × (layout .generators ≤ mostGenerators) × (tallies .epigraphs ≤ mostGenerators) ⌝ }
+    ensures { λ r. ⌜ ((ws : List ℕ) (xs : List Float) (solver : Float) → LaidWords ws layout → Tallied ws xs tallies
+        → r ≡ faultGiven ws xs (now (point .entry)) solver) ⌝ }
+{
+    let columns = 2 * layout.buses + 2 * layout.generators + tallies.epigraphs;
+    let wrong = point_fault(point, columns);
+    if wrong.number != 0 {
+        return wrong;
+    }
+    swing_fault(point, layout.buses)
 }

@@ -12,7 +12,7 @@ use Rattle.network.specs.Network.{pD, qD, gS, bS}
 use Rattle.network.specs.declared.layout.Layout.{Layout}
 use Rattle.acopf.specs.Flow.{re, im, voltage}
 use Rattle.derived.specs.contracts.Agree.{At, PerBus}
-use Rattle.derived.specs.Outputs.{vm, pInjection, qInjection, ownObjective, flows, pFrom, qFrom, pTo, qTo}
+use Rattle.derived.specs.Outputs.{vm, pInjection, qInjection, flows, pFrom, qFrom, pTo, qTo}
 
 -- two numbers for each bus and four for each branch, so never more than 2,560
 abbrev pub mostOutputs : ℕ
@@ -41,12 +41,11 @@ pub record FlowsAre (fs : List (List Float)) (n m count : ℕ) (l : List Float) 
   pub p-to : At count (λ b. 2 * n + 2 * m + b) (pTo fs) l
   pub q-to : At count (λ b. 2 * n + 3 * m + b) (qTo fs) l
 
--- the list's front is the outputs of the point x, and `own` is its objective
-pub record Held (ws : List ℕ) (xs x : List Float) (l : Layout) (list : List Float) (own : Float) : Type 0 where
+-- the list's front is the outputs of the point x
+pub record Held (ws : List ℕ) (xs x : List Float) (l : Layout) (list : List Float) : Type 0 where
   pub room : 2 * l .buses + 4 * l .branches ≤ length list
   pub injections-are : InjectionsAre ws xs x l list
   pub flows-are : FlowsAre (flows ws xs x) (l .buses) (l .branches) (l .branches) list
-  pub own-is : own ≡ ownObjective ws xs x
 
 -- the first that is not finite, where the list's place 0 counts as place `from`
 unfoldable pub nonFiniteFrom : ℕ → ℕ → List Float → Fault

@@ -31,8 +31,14 @@ slice-aggregate-residuals-of c = search needs
 residuals-of-requires : tie.Need-residuals-of-requires
 residuals-of-requires c κs =
     let pre = c .before .before .before .before .before .before .before .before .before .before .before .before .pre in
-    let copy-front′ = c .before .before .before .before .before .copy-front in
-    (pre .0, pre .1, balanced _ _ _ _ (pre .1) (copy-front′ .ensures) (omega (arith, pre .0 .laid .words .few-buses, copy-front′ .kept .1 .1 .0, c .before .before .balances .kept .1 .1 .1 .1 .0)) (c .before .before .balances .ensures))
+    let copy-front′ = c .before .before .before .before .before .copy-front in (
+      pre .0,
+      pre .1,
+      balanced _ _ _ _ (pre .1) (copy-front′ .ensures)
+          (omega (arith, pre .0 .laid .words .few-buses, copy-front′ .kept .1 .1 .0, c .before .before .balances .kept .1 .1 .1 .1 .0))
+          (c .before .before .balances .ensures),
+      pre .2,
+    )
 
 returns : tie.Need-returns
 returns c = search needs

@@ -38,28 +38,25 @@ thermal-limits-requires c κs =
     let pre = c .before .before .before .before .before .before .before .before .before .before .pre in
     (pre .0 .laid, pre .1 .room)
 
-epigraphs-requires : tie.Need-epigraphs-requires
-epigraphs-requires c κs =
-    let pre = c .before .before .before .before .before .before .before .before .before .before .before .pre in
-    pre .0
-
 objective-difference-requires : tie.Need-objective-difference-requires
 objective-difference-requires c κs = search needs
 
 returns : tie.Need-returns
 returns c =
-    let args = c .before .before .before .before .before .before .before .before .before .before .before .before .before .args in
-    let pre = c .before .before .before .before .before .before .before .before .before .before .before .before .before .pre in
+    let args = c .before .before .before .before .before .before .before .before .before .before .before .before .args in
+    let pre = c .before .before .before .before .before .before .before .before .before .before .before .before .pre in
     let ws = args .words .now in
     let xs = args .numbers .now in
     let x = args .point .now in
+    let fs = flows ws xs x in
     let n = ap (λ z. z .buses) (pre .0 .laid .words .is) in
     let B = pre .2 .balances-are in
-    residuals-are ws xs x (flows ws xs x) _ _ _ _ _ _ _ _ _
-    (active-is ws xs x (flows ws xs x) _ _ n (c .before .before .before .before .before .before .before .balance-residual .ensures (pBalance ws xs x (flows ws xs x)) (λ i q. rw zero-add (B .one i q))))
-    (reactive-is ws xs x (flows ws xs x) _ _ n (c .before .before .before .before .before .before .balance-residual2 .ensures (qBalance ws xs x (flows ws xs x)) (B .two)))
-    (c .before .before .before .before .before .variable-bounds .ensures) (c .before .before .before .before .reference-angles .ensures xs) (c .before .before .before .angle-limits .ensures) (c .before .before .thermal-limits .ensures x (flows ws xs x) (pre .1 .flows-are))
-    (c .before .epigraphs .ensures) (difference-is ws xs x _ _ _ (pre .1 .own-is) (c .objective-difference .ensures))
+    let active = c .before .before .before .before .before .before .balance-residual .ensures (pBalance ws xs x fs) (λ i q. rw zero-add (B .one i q)) in
+    let reactive = c .before .before .before .before .before .balance-residual2 .ensures (qBalance ws xs x fs) (B .two) in
+    residuals-are ws xs x fs _ _ _ _ _ _ _ _ _ (active-is ws xs x fs _ _ n active) (reactive-is ws xs x fs _ _ n reactive)
+    (c .before .before .before .before .variable-bounds .ensures) (c .before .before .before .reference-angles .ensures xs) (c .before .before .angle-limits .ensures)
+    (c .before .thermal-limits .ensures x fs (pre .1 .flows-are)) (pre .3 .epigraph-is)
+    (difference-is ws xs x _ _ _ (pre .3 .objective-is) (c .objective-difference .ensures))
 
 pub residuals-of-spec : {M : Type 1} → statement M
 residuals-of-spec =
@@ -71,6 +68,5 @@ residuals-of-spec =
     reference-angles-requires
     angle-limits-requires
     thermal-limits-requires
-    epigraphs-requires
     objective-difference-requires
     returns)

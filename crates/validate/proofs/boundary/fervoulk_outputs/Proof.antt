@@ -1,45 +1,58 @@
-use borrow.Author.Needs.{needs}
-use mathlib.Core.Path.{ap, sym, _∙_}
 use native.Mathlib.Omega.{arith}
-use Rattle.validate.proofs.Entry.{network-good, needed-refused, needed-is}
+use mathlib.Core.Path.{subst}
+use Rattle.factor.specs.Judged.{Judges}
+use Rattle.validate.proofs.Entry.{needed-refused, needed-is}
+use borrow.Author.Needs.{needs}
 use Rattle.validate.proofs.boundary.fervoulk_outputs.Statement.{statement}
 use Rattle.validate.proofs.boundary.fervoulk_outputs.Tie as tie
 
-network-fault-requires : tie.Need-network-fault-requires
-network-fault-requires c κs = search needs
+judge-requires : tie.Need-judge-requires
+judge-requires c κs = search needs
 
-returns : tie.Need-returns
-returns c = needed-refused _ _ (c .before .before .network-fault .ensures) (c .if1 .taken)
+enum-told : tie.Need-enum-told
+enum-told c = search needs
 
-sizes-of-requires : tie.Need-sizes-of-requires
-sizes-of-requires c κs = search needs
+enum-known-judged : tie.Need-enum-known-judged
+enum-known-judged c = search needs
 
 mul-result : tie.Need-mul-result
 mul-result c =
-    let g = network-good _ _ (ap (λ f. f .number) (sym (c .before .before .before .before .network-fault .ensures)) ∙ c .before .before .if1 .left) in
-    omega (arith, c .before .sizes-of .ensures .0, g .few-buses)
+    let args = c .before .before .before .before .before .before .before .args in
+    let ws = args .words .now in
+    let xs = args .numbers .now in
+    let L = subst (Judges ws xs) (c .before .before .judged .given .1) (c .before .before .before .before .judge .ensures) .1 .words in
+    omega (arith, L .few-buses, L .few-branches)
 
 mul-result-2 : tie.Need-mul-result-2
 mul-result-2 c =
-    let g = network-good _ _ (ap (λ f. f .number) (sym (c .before .before .before .before .before .network-fault .ensures)) ∙ c .before .before .before .if1 .left) in
-    omega (arith, c .before .before .sizes-of .ensures .2, g .few-branches)
+    let args = c .before .before .before .before .before .before .before .before .args in
+    let ws = args .words .now in
+    let xs = args .numbers .now in
+    let L = subst (Judges ws xs) (c .before .before .before .judged .given .1) (c .before .before .before .before .before .judge .ensures) .1 .words in
+    omega (arith, L .few-buses, L .few-branches)
 
 add-result : tie.Need-add-result
 add-result c =
-    let g = network-good _ _ (ap (λ f. f .number) (sym (c .before .before .before .before .before .network-fault .ensures)) ∙ c .before .before .before .if1 .left) in
-    omega (arith, c .before .before .sizes-of .ensures .0, c .before .before .sizes-of .ensures .2, g .few-buses, g .few-branches)
+    let args = c .before .before .before .before .before .before .before .before .args in
+    let ws = args .words .now in
+    let xs = args .numbers .now in
+    let L = subst (Judges ws xs) (c .before .before .before .judged .given .1) (c .before .before .before .before .before .judge .ensures) .1 .words in
+    omega (arith, L .few-buses, L .few-branches)
+
+returns : tie.Need-returns
+returns c =
+    let args = c .before .before .before .before .before .args in
+    let ws = args .words .now in
+    let xs = args .numbers .now in
+    needed-refused ws xs (subst (Judges ws xs) (c .enum-told .given .1) (c .before .before .judge .ensures))
 
 returns-2 : tie.Need-returns-2
-returns-2 c = needed-is _ _ _ _ (c .before .before .before .before .before .network-fault .ensures) (c .before .before .before .if1 .left) (c .before .before .sizes-of .ensures .0) (c .before .before .sizes-of .ensures .2)
+returns-2 c =
+    let args = c .before .before .before .before .before .before .before .before .args in
+    let ws = args .words .now in
+    let xs = args .numbers .now in
+    let j = subst (Judges ws xs) (c .before .before .before .judged .given .1) (c .before .before .before .before .before .judge .ensures) in
+    needed-is ws xs (j .0) (j .1)
 
 pub fervoulk-outputs-spec : {M : Type 1} → statement M
-fervoulk-outputs-spec =
-    tie.close
-    (tie.spec
-    network-fault-requires
-    returns
-    sizes-of-requires
-    mul-result
-    mul-result-2
-    add-result
-    returns-2)
+fervoulk-outputs-spec = tie.close (tie.spec judge-requires enum-told enum-known-judged mul-result mul-result-2 add-result returns returns-2)

@@ -1,81 +1,82 @@
-use borrow.Author.Needs.{needs}
 use native.Mathlib.Omega.{arith}
-use mathlib.Core.Path.{ap}
-use Rattle.derived.proofs.Scratch.{flows-kept}
+use Rattle.validate.proofs.Verdict.{says-15, says-16, says-0}
+use borrow.Author.Needs.{needs}
 use Rattle.validate.proofs.primal.verdict.Statement.{statement}
 use Rattle.validate.proofs.primal.verdict.Tie as tie
 
-slice-aggregate-voltages : tie.Need-slice-aggregate-voltages
-slice-aggregate-voltages c = search needs
+slice-aggregate-measure : tie.Need-slice-aggregate-measure
+slice-aggregate-measure c = search needs
 
-voltages-requires : tie.Need-voltages-requires
-voltages-requires c κs =
-    let pre = c .before .before .before .before .before .pre in
-    (omega (arith, pre .0 .wide), omega (arith, pre .0 .laid .words .few-buses), pre .0 .laid .words .few-buses)
+measure-requires : tie.Need-measure-requires
+measure-requires c κs =
+    let L = c .before .before .before .before .before .pre .0 .laid .words in
+    (c .before .before .before .before .before .pre .0, omega (arith, L .few-buses, L .few-branches))
 
-slice-aggregate-flows : tie.Need-slice-aggregate-flows
-slice-aggregate-flows c = search needs
+refused-requires : tie.Need-refused-requires
+refused-requires c κs = search needs
 
-slice-aggregate-flows-2 : tie.Need-slice-aggregate-flows-2
-slice-aggregate-flows-2 c = search needs
+returns : tie.Need-returns
+returns c =
+    let pre = c .before .before .before .before .before .before .before .before .before .before .before .pre in
+    let outputs = c .before .before .before .before .before .before .before .before .before .before .before .args .outputs .now in
+    says-15 (pre .0 .laid) (c .before .before .before .before .before .measure .ensures) outputs (pre .2) (c .refused .result) (c .refused .ensures) (c .before .if1 .taken)
 
-flows-requires : tie.Need-flows-requires
-flows-requires c κs =
-    let pre = c .before .before .before .before .before .before .before .before .before .pre in
-    (pre .0 .laid, omega (arith, pre .0 .laid .words .few-buses, c .before .before .before .voltages .kept .1 .1 .0), omega (arith, pre .0 .laid .words .few-buses, pre .0 .laid .words .few-branches))
+residual-fault-requires : tie.Need-residual-fault-requires
+residual-fault-requires c κs = search needs
 
-slice-aggregate-injections : tie.Need-slice-aggregate-injections
-slice-aggregate-injections c = search needs
-
-injections-requires : tie.Need-injections-requires
-injections-requires c κs =
-    let pre = c .before .before .before .before .before .before .before .before .before .before .before .before .pre in
-    (pre .0, omega (arith, pre .0 .laid .words .few-buses, c .before .before .flows .kept .1 .1 .1 .1 .0))
-
-own-objective-requires : tie.Need-own-objective-requires
-own-objective-requires c κs =
+returns-2 : tie.Need-returns-2
+returns-2 c =
     let pre = c .before .before .before .before .before .before .before .before .before .before .before .before .before .before .pre in
-    pre .0
+    let outputs = c .before .before .before .before .before .before .before .before .before .before .before .before .before .before .args .outputs .now in
+    says-16 (pre .0 .laid) (c .before .before .before .before .before .before .before .before .measure .ensures) outputs (pre .2) (c .before .before .before .before .if1 .left) (c .before .before .residual-fault .result) (c .before .before .residual-fault .ensures) (c .if2 .taken)
 
-slice-aggregate-judge : tie.Need-slice-aggregate-judge
-slice-aggregate-judge c = search needs
+slice-aggregate-copy-front : tie.Need-slice-aggregate-copy-front
+slice-aggregate-copy-front c = search needs
 
-judge-requires : tie.Need-judge-requires
-judge-requires c κs =
-    let pre = c .before .before .before .before .before .before .before .before .before .before .before .before .before .before .before .before .before .pre in
-    let L = pre .0 .laid .words in
-    let A = c .before .before .before .before .before .before .before .before .before .before .before .voltages .ensures _ (ap (λ z. z .buses) (L .is)) in
-    let I = c .before .before .before .before .injections .ensures in (
-      pre .0,
-      pre .1,
-      pre .2,
-      record {
-        room = omega (arith, L .few-buses, L .few-branches, c .before .before .before .before .before .before .before .flows .kept .1 .1 .1 .1 .0, c .before .before .before .before .injections .kept .1 .1 .1 .1 .0);
-        injections-are = I .0;
-        flows-are = flows-kept (I .1) (c .before .before .before .before .before .before .before .flows .ensures _ A);
-        own-is = c .before .before .own-objective .ensures;
-      },
-    )
+mul-copy-front : tie.Need-mul-copy-front
+mul-copy-front c =
+    let L = c .before .before .before .before .before .before .before .before .before .before .before .before .before .before .before .before .pre .0 .laid .words in
+    omega (arith, L .few-buses, L .few-branches)
+
+mul-copy-front-2 : tie.Need-mul-copy-front-2
+mul-copy-front-2 c =
+    let L = c .before .before .before .before .before .before .before .before .before .before .before .before .before .before .before .before .before .pre .0 .laid .words in
+    omega (arith, L .few-buses, L .few-branches)
+
+add-copy-front : tie.Need-add-copy-front
+add-copy-front c =
+    let L = c .before .before .before .before .before .before .before .before .before .before .before .before .before .before .before .before .before .pre .0 .laid .words in
+    omega (arith, L .few-buses, L .few-branches)
+
+copy-front-requires : tie.Need-copy-front-requires
+copy-front-requires c κs =
+    let L = c .before .before .before .before .before .before .before .before .before .before .before .before .before .before .before .before .before .before .pre .0 .laid .words in
+    (omega (arith, L .few-buses, L .few-branches, c .before .before .before .before .before .before .before .before .before .before .before .before .measure .kept .1 .1 .1 .1 .1 .0), c .before .before .before .before .before .before .before .before .before .before .before .before .before .before .before .before .before .before .pre .1)
 
 same-length : tie.Need-same-length
 same-length c = search needs
 
-returns : tie.Need-returns
-returns c = c .before .before .judge .ensures
+returns-3 : tie.Need-returns-3
+returns-3 c =
+    let pre = c .before .before .before .before .before .before .before .before .before .before .before .before .before .before .before .before .before .before .before .before .before .pre in
+    let outputs = c .before .before .before .before .before .before .before .before .before .before .before .before .before .before .before .before .before .before .before .before .before .args .outputs .now in
+    let above = c .before .before .before .before .before .before .before .before .before .residual-fault in
+    says-0 (pre .0 .laid) (c .before .before .before .before .before .before .before .before .before .before .before .before .before .before .before .measure .ensures) outputs (pre .2) (c .before .before .before .before .before .before .before .before .before .before .before .if1 .left) (above .result) (above .ensures) _ (c .before .before .before .before .before .before .before .if2 .left) (c .before .before .copy-front .ensures)
 
 pub verdict-spec : {M : Type 1} → statement M
 verdict-spec =
     tie.close
     (tie.spec
-    slice-aggregate-voltages
-    voltages-requires
-    slice-aggregate-flows
-    slice-aggregate-flows-2
-    flows-requires
-    slice-aggregate-injections
-    injections-requires
-    own-objective-requires
-    slice-aggregate-judge
-    judge-requires
+    slice-aggregate-measure
+    measure-requires
+    refused-requires
+    returns
+    residual-fault-requires
+    returns-2
+    slice-aggregate-copy-front
+    mul-copy-front
+    mul-copy-front-2
+    add-copy-front
+    copy-front-requires
     same-length
-    returns)
+    returns-3)
