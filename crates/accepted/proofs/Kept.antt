@@ -20,9 +20,9 @@ use Rattle.network.specs.Network.{buses, generators, branches, from, to, angled
 use Rattle.network.proofs.Places.{and-left, and-right, from-bus, to-bus, referred-bus}
 use Rattle.tables.proofs.Right.{lower-right, upper-right, words-clear, angle-right, rating-right}
 use Rattle.acopf.specs.Columns.{columnLower, columnUpper}
-use Rattle.acopf.specs.Curve.{slope, intercept, evaluate, curveValue}
+use Rattle.piecewise_cost.specs.Curve.{slope, intercept, evaluate, curveValue}
 use Rattle.acopf.specs.Factor.{networkFault}
-use Rattle.acopf.specs.Flow.{flowAt, flowOf, flow}
+use Rattle.pi_model.specs.Flow.{flowAt, flowOf, flow}
 use Rattle.acopf.specs.Rows.{rated}
 use Rattle.acopf.proofs.Counts.{lower-columns, upper-columns}
 use Rattle.acopf.proofs.Right.{tables-clear, lower-finite, upper-finite, slope-finite, intercept-finite}

@@ -12,7 +12,7 @@ use Rattle.fdlibm.specs.Hypot.{hypotenuse}
 use Rattle.network.specs.Network.{buses, generators, branches, references, from, to, angled, referred, curved, columns}
 use Rattle.network.specs.Network.{angleMin, angleMax, sMax}
 use Rattle.bounds.specs.Bounds.{angleRight, positiveViolation}
-use Rattle.acopf.specs.Curve.{curveValue}
+use Rattle.piecewise_cost.specs.Curve.{curveValue}
 use Rattle.acopf.specs.Columns.{columnLower, columnUpper}
 use Rattle.acopf.specs.Rows.{rated}
 use Rattle.acopf.specs.Factor.{networkFault}

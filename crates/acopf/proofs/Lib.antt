@@ -1,7 +1,6 @@
 pub mod Counts
 pub mod Sizes
 pub mod Laws
-pub mod Leaves
 pub mod Order
 pub mod Finite
 pub mod Right

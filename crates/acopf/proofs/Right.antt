@@ -21,7 +21,7 @@ use Rattle.network.specs.Network.{buses, generators, branches, references, vmBo
 use Rattle.tables.proofs.Right.{lower-right, upper-right, vm-right, pg-right, qg-right}
 use Rattle.acopf.specs.Build.{terms}
 use Rattle.acopf.specs.Columns.{vmLower, vmUpper, pgLower, pgUpper, qgLower, qgUpper, columnLower, columnUpper, columnStart}
-use Rattle.acopf.specs.Curve.{slope, intercept}
+use Rattle.piecewise_cost.specs.Curve.{slope, intercept}
 use Rattle.acopf.specs.Factor.{constants64, faultFactor, networkFault}
 use Rattle.acopf.specs.Model.{objective, objectiveConstant, model}
 use Rattle.acopf.specs.Parts.{sharedParts}

@@ -13,7 +13,8 @@ use Rattle.network.specs.Network.{costs, curved, cost0, angled, rated, epigraph
 use Rattle.network.specs.declared.layout.Layout.{Layout}
 use Rattle.network.specs.declared.records.Generator.{Generator}
 use Rattle.network.specs.declared.records.Branch.{Branch}
-use Rattle.network.specs.Layout.{Laid, GeneratorRead, BranchRead}
+use Rattle.network.specs.Layout.{Laid}
+use Rattle.network.specs.contracts.Records.{GeneratorRead, BranchRead}
 use Rattle.network.specs.Limits.{mostPoints, mostGenerators, mostBranches}
 use Rattle.acopf.specs.Tallies.{rowSegments, segmentsBefore, Tallied}
 use Rattle.acopf.specs.declared.tallies.Tallies.{Tallies}

@@ -8,7 +8,7 @@ use Rattle.float.specs.Number.{zero64}
 use Rattle.bounds.specs.Bounds.{huge64, finiteOr, clampStart}
 use Rattle.network.specs.Network.{buses, generators, vmBounded, capable, curved, epigraphsBefore}
 use Rattle.network.specs.Network.{vmMin, vmMax, vaGiven, vmGiven, pMin, pMax, qMin, qMax, pgGiven, qgGiven}
-use Rattle.acopf.specs.Curve.{curveValue}
+use Rattle.piecewise_cost.specs.Curve.{curveValue}
 
 module _ (ws : List ℕ) (xs : List Float) where
   -- "vm's lower is 0; active flags put the table's bounds"

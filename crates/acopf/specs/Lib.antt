@@ -1,5 +1,3 @@
-pub mod Curve
-pub mod Flow
 pub mod Columns
 pub mod Build
 pub mod Parts
@@ -7,4 +5,3 @@ pub mod Rows
 pub mod Model
 pub mod Factor
 pub mod Tallies
-pub mod contracts

@@ -6,7 +6,7 @@ use lib.Ieee.{Float, nan}
 use Rattle.base.specs.Loop.{table, each}
 use Rattle.nl.specs.Expr.{Expr, column, shared}
 use Rattle.network.specs.Network.{buses, branches, from, to, vaColumn, vmColumn}
-use Rattle.acopf.specs.Flow.{coefficients}
+use Rattle.pi_model.specs.Flow.{coefficients}
 use Rattle.acopf.specs.Build.{subtract, multiply, square, cosineOf, sineOf, scaled, sum}
 
 module _ (ws : List ℕ) where

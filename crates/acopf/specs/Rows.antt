@@ -11,7 +11,7 @@ use Rattle.bounds.specs.Bounds.{huge64}
 pub use Rattle.network.specs.Network.{rated}
 use Rattle.network.specs.Network.{buses, generators, branches, references, busOf, from, to, angled, referred, curveAt, segments, curved}
 use Rattle.network.specs.Network.{vaColumn, pgColumn, qgColumn, epigraphColumn, pD, qD, gS, bS, angleMin, angleMax, sMax}
-use Rattle.acopf.specs.Curve.{slope, intercept}
+use Rattle.piecewise_cost.specs.Curve.{slope, intercept}
 use Rattle.acopf.specs.Build.{literal, add, subtract, square, scaled, sum}
 use Rattle.acopf.specs.Parts.{vmSquared, pFrom, qFrom, pTo, qTo, angleDifference}
 

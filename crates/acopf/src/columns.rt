@@ -1,8 +1,8 @@
 // The bounds of vm, a generator's bounds and start in the model's columns, and the start of its epigraph column.
-use crate::curve::curve_value;
 use bounds::clamp_start;
 use network::Bus;
 use network::Generator;
+use piecewise_cost::curve_value;
 ghost use mathlib.Core.Path.{_≡_};
 ghost use mathlib.Core.Bool.{cond};
 ghost use Prim.Native.Nat.{_+_, _-_, _*_, _≤_};
@@ -11,7 +11,7 @@ ghost use lib.ListN.{length};
 ghost use Rattle.float.specs.Number.{zero64};
 ghost use Rattle.bounds.specs.Bounds.{huge64, clampStart};
 ghost use Rattle.network.specs.Limits.{pointNumbers, mostPoints};
-ghost use Rattle.acopf.specs.Curve.{evaluate};
+ghost use Rattle.piecewise_cost.specs.Curve.{evaluate};
 
 // The bounds of the bus's vm where they are active, else 0 and 1e19.
 pub fn vm_lower(bus: Bus) -> f64

@@ -1,8 +1,5 @@
 // The AC optimal power flow model: what compile_ac_opf_model builds and validate_primal starts from.
 mod columns;
-mod complex;
-mod curve;
-mod flow;
 mod objective;
 mod tallies;
 
@@ -13,12 +10,6 @@ pub use columns::lower_bound;
 pub use columns::upper_bound;
 pub use columns::vm_lower;
 pub use columns::vm_upper;
-pub use complex::polar;
-pub use curve::curve_value;
-pub use curve::intercept_of;
-pub use curve::slope_of;
-pub use flow::coefficients;
-pub use flow::numeric_branch_flow;
 pub use objective::objective_constant;
 pub use objective::objective_constants;
 pub use tallies::Tallies;

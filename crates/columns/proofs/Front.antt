@@ -16,7 +16,8 @@ use Rattle.network.specs.Network.{buses, generators, curved, epigraphsBefore, c
 use Rattle.network.specs.declared.layout.Layout.{Layout}
 use Rattle.network.specs.declared.records.Bus.{Bus}
 use Rattle.network.specs.declared.records.Generator.{Generator}
-use Rattle.network.specs.Layout.{Laid, GeneratorRead, generatorRecord}
+use Rattle.network.specs.Layout.{Laid}
+use Rattle.network.specs.contracts.Records.{GeneratorRead, generatorRecord}
 use Rattle.acopf.specs.Columns.{vmLower, vmUpper, pgLower, pgUpper, qgLower, qgUpper, vaStart, vmStart, pgStart, qgStart, epigraphStart}
 use Rattle.acopf.specs.Columns.{columnLower, columnUpper, columnStart}
 use Rattle.acopf.specs.Tallies.{Tallied}

@@ -22,8 +22,8 @@ use Rattle.network.specs.Network.{kindBefore, buses, generators, branches, refe
 use Rattle.bounds.specs.Bounds.{swing64, huge64, finiteOr, clampStart, boundsRight, angleRight, positiveViolation}
 use Rattle.network.specs.Fault.{wordRight, faultWords, faultSize, faultCount}
 use Rattle.tables.specs.Fault.{blanks, faultBlank, faultCurve, faultShift, faultBounds, faultSpread, faultRating, faultSquare, branchFault, faultBranches, faultTables}
-use Rattle.acopf.specs.Curve.{slope, intercept, evaluate}
-use Rattle.acopf.specs.Flow.{coefficientsOf, flowAt, flowOf, flow}
+use Rattle.piecewise_cost.specs.Curve.{slope, intercept, evaluate}
+use Rattle.pi_model.specs.Flow.{coefficientsOf, flowAt, flowOf, flow}
 use Rattle.acopf.specs.Columns.{vmLower, vmUpper, pgLower, pgUpper, qgLower, qgUpper, vaStart, vmStart, pgStart, qgStart, epigraphStart, columnLower, columnUpper, columnStart}
 use Rattle.acopf.specs.Parts.{branchParts, sharedParts}
 use Rattle.acopf.specs.Rows.{balanceRow, pBalance as pBalanceModel, qBalance as qBalanceModel, thermalRows, segmentRow, segmentRows, rows, rowLower, rowUpper}

@@ -17,7 +17,7 @@ use Rattle.base.specs.Loop.{loop, table}
 use Rattle.base.proofs.Loops.{getD-table}
 use Rattle.float.specs.Number.{_⊕_, _⊖_}
 use Rattle.network.specs.Network.{buses, generators, branches, busOf, from, to}
-use Rattle.acopf.specs.Flow.{flow}
+use Rattle.pi_model.specs.Flow.{flow}
 use Rattle.derived.specs.contracts.Agree.{At, PerBus, Kept}
 use Rattle.derived.specs.Outputs.{flows, injected, withdrawn, pInjection, qInjection, pFrom, qFrom, pTo, qTo, outputs}
 use Rattle.derived.specs.contracts.Scratch.{FlowsAre}

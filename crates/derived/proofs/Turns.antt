@@ -10,8 +10,9 @@ use Rattle.network.specs.declared.layout.Layout.{Layout}
 use Rattle.network.specs.declared.records.Bus.{Bus}
 use Rattle.network.specs.declared.records.Generator.{Generator}
 use Rattle.network.specs.declared.records.Branch.{Branch}
-use Rattle.network.specs.Layout.{busRecord, Laid, GeneratorRead, BranchRead}
-use Rattle.acopf.specs.Flow.{re, im, polar, voltage, flowOf, flow}
+use Rattle.network.specs.Layout.{Laid}
+use Rattle.network.specs.contracts.Records.{busRecord, GeneratorRead, BranchRead}
+use Rattle.pi_model.specs.Flow.{re, im, polar, voltage, flowOf, flow}
 use Rattle.derived.specs.contracts.Agree.{PerBus}
 use Rattle.derived.specs.Outputs.{pg, qg, pFrom, qFrom, pTo, qTo}
 use Rattle.derived.specs.contracts.Scratch.{VoltagesAre, pDemand, qDemand, FlowsAre}

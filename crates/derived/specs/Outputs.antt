@@ -9,8 +9,8 @@ use Rattle.base.specs.Loop.{loop, table}
 use Rattle.float.specs.Number.{_⊕_, _⊖_, _⊗_, zero64, half64}
 use Rattle.network.specs.Network.{buses, generators, branches, costs, busOf, from, to, curved}
 use Rattle.network.specs.Network.{vaColumn, vmColumn, pgColumn, qgColumn, epigraphColumn, pD, qD, gS, bS, costQ, costC, cost0}
-use Rattle.acopf.specs.Curve.{curveValue}
-use Rattle.acopf.specs.Flow.{flow}
+use Rattle.piecewise_cost.specs.Curve.{curveValue}
+use Rattle.pi_model.specs.Flow.{flow}
 
 -- the point x: a number for each column
 module _ (ws : List ℕ) (x : List Float) where

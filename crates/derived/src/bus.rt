@@ -1,11 +1,11 @@
 // The voltage, the injections and the balances of every bus: two numbers each, which stand in a list at i and at n + i.
-use acopf::polar;
 use network::Layout;
 use network::branch_of;
 use network::bus_of;
 use network::first_generator;
 use network::generator_of;
 use network::next_generator;
+use pi_model::polar;
 ghost use mathlib.Core.Path.{_≡_};
 ghost use mathlib.Core.List.{List};
 ghost use Prim.Native.Nat.{ℕ, _+_, _*_, _≤_};

@@ -1,14 +1,14 @@
 // The flows of every branch, at both ends.
-use acopf::numeric_branch_flow;
 use network::Layout;
 use network::branch_of;
+use pi_model::numeric_branch_flow;
 ghost use mathlib.Core.Path.{_≡_};
 ghost use mathlib.Core.List.{List};
 ghost use Prim.Native.Nat.{_+_, _*_, _<_, _≤_};
 ghost use lib.Ieee.{Float};
 ghost use lib.ListN.{length};
 ghost use Rattle.network.specs.Layout.{Laid};
-ghost use Rattle.acopf.specs.Flow.{flow};
+ghost use Rattle.pi_model.specs.Flow.{flow};
 ghost use Rattle.derived.specs.Outputs.{flows};
 ghost use Rattle.derived.specs.contracts.Scratch.{VoltagesAre, FlowsAre};
 

@@ -12,7 +12,8 @@ use Rattle.nl.specs.Expr.{column}
 use Rattle.network.specs.declared.layout.Layout.{Layout}
 use Rattle.network.specs.declared.records.Generator.{Generator}
 use Rattle.network.specs.declared.records.Branch.{Branch}
-use Rattle.network.specs.Layout.{LaidWords, Laid, generatorRecord, branchRecord}
+use Rattle.network.specs.Layout.{LaidWords, Laid, branchRecord}
+use Rattle.network.specs.contracts.Records.{generatorRecord}
 use Rattle.network.specs.Network.{epigraphsBefore}
 use Rattle.network.specs.Word.{branchFrom, branchTo, branchAngled, referenceBus}
 use Rattle.acopf.specs.Build.{subtract}

@@ -1,12 +1,12 @@
 // The rows of curve segments.
 use acopf::counted;
-use acopf::intercept_of;
 use acopf::row_segments;
-use acopf::slope_of;
 use network::Layout;
 use network::first_generator;
 use network::generator_of;
 use network::next_generator;
+use piecewise_cost::intercept_of;
+use piecewise_cost::slope_of;
 use writer::Writer;
 use writer::model_word;
 use writer::put;

@@ -25,7 +25,7 @@ use Rattle.network.specs.Network.{buses, generators, branches, angled, limited,
 use Rattle.network.proofs.Places.{and-left, and-right}
 use Rattle.tables.proofs.Right.{lower-right, upper-right, angle-right, rating-right}
 use Rattle.acopf.specs.Columns.{columnLower, columnUpper}
-use Rattle.acopf.specs.Curve.{curveValue}
+use Rattle.piecewise_cost.specs.Curve.{curveValue}
 use Rattle.acopf.specs.Rows.{rated}
 use Rattle.acopf.proofs.Counts.{lower-columns, upper-columns}
 use Rattle.acopf.proofs.Right.{tables-clear, lower-finite, upper-finite}

@@ -15,7 +15,7 @@ use Rattle.float.specs.Doubles.{Doubles}
 use Rattle.network.specs.Network.{buses, generators, branches, costs, busOf, from, to, vmBounded, capable, epigraphsBefore, columns, segments}
 use Rattle.bounds.specs.Bounds.{huge64}
 use Rattle.acopf.specs.Columns.{vmLower, vmUpper, pgLower, pgUpper, qgLower, qgUpper, columnLower, columnUpper}
-use Rattle.acopf.specs.Curve.{evaluate, curveValue}
+use Rattle.piecewise_cost.specs.Curve.{evaluate, curveValue}
 use Rattle.acopf.proofs.Counts.{lower-columns, upper-columns}
 use Rattle.derived.specs.Outputs.{injected, withdrawn, pInjection, qInjection, ownObjective}
 use Rattle.residuals.specs.Residuals.{pBalance, qBalance}

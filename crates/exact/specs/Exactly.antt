@@ -13,7 +13,7 @@ use Rattle.rounding.specs.Units.{units, size, above, excess}
 use Rattle.hypot_error.specs.Exact.{exactSquare, Upper}
 use Rattle.network.specs.Network.{buses, generators, branches, references, from, to, angled, referred, curved, columns}
 use Rattle.network.specs.Network.{angleMin, angleMax, sMax}
-use Rattle.acopf.specs.Curve.{curveValue}
+use Rattle.piecewise_cost.specs.Curve.{curveValue}
 use Rattle.acopf.specs.Columns.{columnLower, columnUpper}
 use Rattle.acopf.specs.Rows.{rated}
 use Rattle.derived.specs.Outputs.{va, pg, epigraph, ownObjective, flows, pFrom, qFrom, pTo, qTo}

@@ -25,9 +25,9 @@ use Rattle.network.specs.Network.{buses, generators, branches, vmBounded, capab
 use Rattle.tables.proofs.Right.{lower-right, upper-right, words-clear, vm-right, pg-right, qg-right}
 use Rattle.acopf.specs.Build.{square, terms}
 use Rattle.acopf.specs.Columns.{vmLower, vmUpper, pgLower, pgUpper, qgLower, qgUpper, vaStart, vmStart, pgStart, qgStart, epigraphStart, columnStart}
-use Rattle.acopf.specs.Curve.{slope, intercept}
+use Rattle.piecewise_cost.specs.Curve.{slope, intercept}
 use Rattle.acopf.specs.Factor.{firstNonFinite, constants64, faultFactor}
-use Rattle.acopf.specs.Flow.{coefficientsOf, coefficients}
+use Rattle.pi_model.specs.Flow.{coefficientsOf, coefficients}
 use Rattle.acopf.specs.Model.{objective, objectiveConstant, model}
 use Rattle.acopf.specs.Tallies.{rowSegments, segmentsBefore}
 use Rattle.factor.specs.contracts.NonFinite.{nonFinite, coefficientsFault, curveFault, branchesFactor, curvesFactor, epigraphsFactor}

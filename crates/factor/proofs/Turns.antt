@@ -15,10 +15,11 @@ use Rattle.network.specs.Network.{curved, curveAt, epigraphsBefore, epigraphCol
 use Rattle.network.specs.declared.layout.Layout.{Layout}
 use Rattle.network.specs.declared.records.Generator.{Generator}
 use Rattle.network.specs.declared.records.Branch.{Branch}
-use Rattle.network.specs.Layout.{Laid, GeneratorRead, BranchRead}
+use Rattle.network.specs.Layout.{Laid}
+use Rattle.network.specs.contracts.Records.{GeneratorRead, BranchRead}
 use Rattle.acopf.specs.Columns.{pgLower, pgUpper, pgStart, epigraphStart}
-use Rattle.acopf.specs.Curve.{evaluate}
-use Rattle.acopf.specs.Flow.{coefficientsOf, coefficients}
+use Rattle.piecewise_cost.specs.Curve.{evaluate}
+use Rattle.pi_model.specs.Flow.{coefficientsOf, coefficients}
 use Rattle.acopf.specs.Tallies.{rowSegments, segmentsBefore}
 use Rattle.acopf.proofs.Tallied.{segments-next, epigraphs-next}
 use Rattle.factor.specs.contracts.NonFinite.{coefficientsFault, curveFault}

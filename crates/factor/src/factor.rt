@@ -1,14 +1,11 @@
 // Refusal 11, factor: the first number of the model that is not finite. Of a network that 1 to 10 do not refuse only the numbers looked
 // at here can be non-finite.
 use acopf::Tallies;
-use acopf::coefficients;
 use acopf::counted;
 use acopf::epigraph_start;
-use acopf::intercept_of;
 use acopf::objective_constant;
 use acopf::objective_constants;
 use acopf::row_segments;
-use acopf::slope_of;
 use base::Fault;
 use base::refusal;
 use network::Layout;
@@ -16,6 +13,9 @@ use network::branch_of;
 use network::first_generator;
 use network::generator_of;
 use network::next_generator;
+use pi_model::coefficients;
+use piecewise_cost::intercept_of;
+use piecewise_cost::slope_of;
 ghost use mathlib.Core.Path.{_≡_};
 ghost use mathlib.Core.Bool.{not, _||_};
 ghost use Prim.Native.Nat.{ℕ, _+_, _*_, _≤_, _<_};
@@ -25,7 +25,7 @@ ghost use Rattle.base.specs.Refusal.{FACTOR};
 ghost use Rattle.float.specs.Number.{isFinite};
 ghost use Rattle.tables.specs.Fault.{faultTables};
 ghost use Rattle.network.specs.Layout.{Laid};
-ghost use Rattle.acopf.specs.Curve.{slope, intercept};
+ghost use Rattle.piecewise_cost.specs.Curve.{slope, intercept};
 ghost use Rattle.acopf.specs.Factor.{faultFactor};
 ghost use Rattle.acopf.specs.Model.{objectiveConstant};
 ghost use Rattle.acopf.specs.Tallies.{Tallied};

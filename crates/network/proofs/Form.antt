@@ -19,7 +19,8 @@ use Rattle.network.specs.declared.formed.Form.{Form}
 use Rattle.network.specs.declared.records.Generator.{Generator}
 use Rattle.network.specs.declared.records.Branch.{Branch}
 use Rattle.network.specs.declared.layout.Cursor.{Cursor}
-use Rattle.network.specs.Layout.{layoutOf, generatorAtPlace, branchAtPlace, generatorRecord, branchRecord, LaidWords, Laid, Standing, GeneratorRead, BranchRead, Formed}
+use Rattle.network.specs.Layout.{layoutOf, branchAtPlace, branchRecord, LaidWords, Laid, Formed}
+use Rattle.network.specs.contracts.Records.{generatorAtPlace, generatorRecord, Standing, GeneratorRead, BranchRead}
 use Rattle.network.proofs.Places.{words-length, bus-of-generator, no-single-point, from-bus, to-bus, referred-bus, limits}
 use Rattle.network.proofs.Good.{Good, good-shape, generator-zero, generator-next, generator-start, generator-high, generator-fits}
 

@@ -1,4 +1,4 @@
--- Document 01, "The network file": where the words and numbers of each kind stand, the records by value, and what a network has that
+-- Document 01, "The network file": where the words and numbers of each kind stand, a branch by value, and what a network has that
 -- refusals 1 to 3 do not refuse.
 use Prim.Native.Nat.{ℕ, _+_, _*_, _≤_, _<_}
 use mathlib.Core.Path.{_≡_}
@@ -11,13 +11,10 @@ use Rattle.float.specs.Number.{zero64}
 use Rattle.base.specs.declared.Fault.{Fault}
 use Rattle.network.specs.declared.layout.Layout.{Layout}
 use Rattle.network.specs.declared.formed.Form.{Form}
-use Rattle.network.specs.declared.records.Bus.{Bus}
-use Rattle.network.specs.declared.records.Generator.{Generator}
 use Rattle.network.specs.declared.records.Branch.{Branch}
-use Rattle.network.specs.declared.layout.Cursor.{Cursor}
-use Rattle.network.specs.Limits.{busNumbers, generatorNumbers, pointNumbers, branchNumbers}
-use Rattle.network.specs.Limits.{mostBuses, mostGenerators, mostBranches, mostReferences, mostPoints, mostNumbers}
-use Rattle.network.specs.Network.{number, buses, generators, branches, references, costs, vmBounded, busOf, capable, points, curved}
+use Rattle.network.specs.Limits.{busNumbers, generatorNumbers, pointNumbers, branchNumbers, mostBuses}
+use Rattle.network.specs.Limits.{mostGenerators, mostBranches, mostReferences, mostPoints, mostNumbers}
+use Rattle.network.specs.Network.{number, buses, generators, branches, references, costs, busOf, points}
 use Rattle.network.specs.Network.{from, to, angled, limited, referred, busAt, generatorAt, branchAt}
 
 -- of n buses, k generators, m branches and r references, where the branches' numbers start at `end`
@@ -38,38 +35,7 @@ layoutFrom n k m r end costs = record {
 abbrev pub layoutOf : List ℕ → Layout
 layoutOf ws = layoutFrom (buses ws) (generators ws) (branches ws) (references ws) (generatorAt ws (generators ws)) (costs ws)
 
--- a bus, generator or branch by what its word says and the place of its first number
-abbrev pub busAtPlace : List Float → ℕ → Bool → Bus
-busAtPlace xs at bounded = record {
-  bounded = bounded;
-  «p_d» = number xs at;
-  «q_d» = number xs (at + 1);
-  «g_s» = number xs (at + 2);
-  «b_s» = number xs (at + 3);
-  «vm_min» = number xs (at + 4);
-  «vm_max» = number xs (at + 5);
-  va = number xs (at + 6);
-  vm = number xs (at + 7);
-}
-
-abbrev pub generatorAtPlace : List Float → ℕ → ℕ → Bool → ℕ → Bool → Generator
-generatorAtPlace xs at bus bounded points curved = record {
-  bus = bus;
-  bounded = bounded;
-  points = points;
-  curved = curved;
-  curve = at + generatorNumbers;
-  «p_min» = number xs at;
-  «p_max» = number xs (at + 1);
-  «q_min» = number xs (at + 2);
-  «q_max» = number xs (at + 3);
-  «cost_q» = number xs (at + 4);
-  «cost_c» = number xs (at + 5);
-  «cost_0» = number xs (at + 6);
-  pg = number xs (at + 7);
-  qg = number xs (at + 8);
-}
-
+-- a branch by what its word says and the place of its first number
 abbrev pub branchAtPlace : List Float → ℕ → ℕ → ℕ → Bool → Bool → Branch
 branchAtPlace xs at from to angled limited = record {
   from = from;
@@ -90,13 +56,7 @@ branchAtPlace xs at from to angled limited = record {
   «s_max» = number xs (at + 10);
 }
 
--- bus i, generator g, branch b of the network
-abbrev pub busRecord : List ℕ → List Float → ℕ → Bus
-busRecord ws xs i = busAtPlace xs (busAt ws i) (vmBounded ws i)
-
-abbrev pub generatorRecord : List ℕ → List Float → ℕ → Generator
-generatorRecord ws xs g = generatorAtPlace xs (generatorAt ws g) (busOf ws g) (capable ws g) (points ws g) (curved ws g)
-
+-- branch b of the network
 abbrev pub branchRecord : List ℕ → List Float → ℕ → Branch
 branchRecord ws xs b = branchAtPlace xs (branchAt ws b) (from ws b) (to ws b) (angled ws b) (limited ws b)
 
@@ -137,23 +97,6 @@ pub record Laid (ws : List ℕ) (xs : List Float) (l : Layout) : Type 0 where
   pub generator-fits : (g : ℕ) → g < l .generators → generatorAt ws g + generatorNumbers + pointNumbers * points ws g ≤ length xs
   pub branch-fits : (b : ℕ) → b < l .branches → branchAt ws b + branchNumbers ≤ length xs
   pub doubles : Doubles xs
-
--- the cursor stands at a generator, or at the generators' end
-pub record Standing (ws : List ℕ) (l : Layout) (c : Cursor) : Type 0 where
-  pub within : c .index ≤ l .generators
-  pub at : c .at ≡ generatorAt ws (c .index)
-
--- what reading a record gives, and the bounds that its user needs
-pub record GeneratorRead (ws : List ℕ) (xs : List Float) (l : Layout) (g : ℕ) (r : Generator) : Type 0 where
-  pub is : r ≡ generatorRecord ws xs g
-  pub bus : r .bus < l .buses
-  pub points : r .points ≤ mostPoints
-  pub curve : r .curve + pointNumbers * r .points ≤ length xs
-
-pub record BranchRead (ws : List ℕ) (xs : List Float) (l : Layout) (b : ℕ) (r : Branch) : Type 0 where
-  pub is : r ≡ branchRecord ws xs b
-  pub from : r .from < l .buses
-  pub to : r .to < l .buses
 
 -- the answer of a check whose fault is f, and the layout for those who go on where it is clear
 pub record Formed (ws : List ℕ) (f : Fault) (r : Form) : Type 0 where

@@ -8,7 +8,8 @@ ghost use Prim.Native.Nat.{_+_, _*_, _<_, _≤_};
 ghost use Rattle.network.specs.Limits.{generatorNumbers, pointNumbers, mostBuses, mostGenerators, mostBranches, mostNumbers};
 ghost use Rattle.network.specs.Network.{buses, generators, branches, references, busAt, generatorAt, branchAt, needed};
 ghost use Rattle.network.specs.Fault.{faultWords, faultSize};
-ghost use Rattle.network.specs.Layout.{layoutFrom, layoutOf, LaidWords, Standing};
+ghost use Rattle.network.specs.Layout.{layoutFrom, layoutOf, LaidWords};
+ghost use Rattle.network.specs.contracts.Records.{Standing};
 
 // The numbers of a record: of a bus, of a generator before its curve, of a point of a curve, of a branch.
 pub const BUS_NUMBERS: usize = 8;

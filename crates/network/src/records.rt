@@ -18,8 +18,8 @@ ghost use Prim.Native.Nat.{_+_, _<_, _≤_};
 ghost use lib.ListN.{length};
 ghost use Rattle.network.specs.Limits.{busNumbers, generatorNumbers, branchNumbers};
 ghost use Rattle.network.specs.Network.{referred};
-ghost use Rattle.network.specs.Layout.{LaidWords, Laid};
-ghost use Rattle.network.specs.Layout.{Standing, busAtPlace, generatorAtPlace, branchAtPlace, busRecord, GeneratorRead, BranchRead};
+ghost use Rattle.network.specs.Layout.{LaidWords, Laid, branchAtPlace};
+ghost use Rattle.network.specs.contracts.Records.{Standing, busAtPlace, generatorAtPlace, busRecord, GeneratorRead, BranchRead};
 
 pub struct Bus {
     pub bounded: bool,

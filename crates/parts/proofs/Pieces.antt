@@ -9,7 +9,7 @@ use Rattle.network.specs.declared.layout.Layout.{Layout}
 use Rattle.network.specs.declared.records.Branch.{Branch}
 use Rattle.network.specs.Layout.{Laid, branchRecord}
 use Rattle.network.specs.Word.{branchFrom, branchTo}
-use Rattle.acopf.specs.Flow.{coefficientsOf}
+use Rattle.pi_model.specs.Flow.{coefficientsOf}
 use Rattle.acopf.specs.Parts.{branchParts}
 use Rattle.parts.specs.contracts.Parts.{allParts}
 

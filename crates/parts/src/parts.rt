@@ -1,9 +1,9 @@
 // The shared parts: vm squared per bus, then eight per branch, by branch_flow's terms.
-use acopf::coefficients;
 use network::Layout;
 use network::branch_from;
 use network::branch_of;
 use network::branch_to;
+use pi_model::coefficients;
 use writer::Writer;
 use writer::model_word;
 use writer::put;

@@ -17,8 +17,8 @@ use Rattle.float.specs.Number.{_⊗_, zero64, half64, one64, isFinite, AllFinit
 use Rattle.nl.specs.Expr.{Expr, Terms, none, more, column, shared, over, constants, constantsOf}
 use Rattle.nl.specs.File.{modelConstants}
 use Rattle.network.specs.Network.{buses, generators, branches, references, costs, busOf, from, to, angled, segments, curved, vmColumn, pgColumn, epigraphColumn, costQ, costC}
-use Rattle.acopf.specs.Curve.{slope, intercept}
-use Rattle.acopf.specs.Flow.{coefficientsOf}
+use Rattle.piecewise_cost.specs.Curve.{slope, intercept}
+use Rattle.pi_model.specs.Flow.{coefficientsOf}
 use Rattle.acopf.specs.Build.{literal, scaled, square, sum, terms}
 use Rattle.acopf.specs.Parts.{branchParts, sharedParts}
 use Rattle.acopf.specs.Rows.{balanceRow, pBalance, qBalance, rated, thermalRows, segmentRow, segmentRows, rows}

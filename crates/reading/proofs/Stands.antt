@@ -14,7 +14,7 @@ use Rattle.nl.specs.Expr.{loadLimit, Expr, column, shared, count, constantsOf}
 use Rattle.nl.specs.File.{Model, atRows, atObjective, modelWords, modelConstants, StandsFor}
 use Rattle.network.specs.Network.{buses, generators, branches, references, costs, busOf, from, to, angled, curveAt, segments, curved, epigraphsBefore, columns, vmColumn, pgColumn, qgColumn, epigraphColumn, costQ, costC}
 use Rattle.network.proofs.Good.{Good}
-use Rattle.acopf.specs.Curve.{slope}
+use Rattle.piecewise_cost.specs.Curve.{slope}
 use Rattle.acopf.specs.Build.{literal, scaled, square, sum}
 use Rattle.acopf.specs.Parts.{vmSquared, branchPart, branchParts, sharedParts, pFrom, pTo, qFrom, qTo}
 use Rattle.acopf.specs.Rows.{Row, balanceRow, pBalance, qBalance, referenceRow, angleRow, rated, thermalRow, thermalRows, segmentRow, segmentRows, rows}

@@ -13,8 +13,9 @@ use Rattle.float.specs.Number.{_⊕_, _⊖_, _⊗_, zero64, half64, maximum}
 use Rattle.network.specs.Network.{generators, curved, epigraphsBefore, number}
 use Rattle.network.specs.declared.layout.Layout.{Layout}
 use Rattle.network.specs.declared.records.Generator.{Generator}
-use Rattle.network.specs.Layout.{Laid, GeneratorRead}
-use Rattle.acopf.specs.Curve.{evaluate, curveValue}
+use Rattle.network.specs.Layout.{Laid}
+use Rattle.network.specs.contracts.Records.{GeneratorRead}
+use Rattle.piecewise_cost.specs.Curve.{evaluate, curveValue}
 use Rattle.acopf.proofs.Tallied.{epigraphs-none, epigraphs-next}
 use Rattle.derived.specs.contracts.Agree.{Ready}
 use Rattle.derived.specs.Outputs.{pg, epigraph, cost, ownObjective}

@@ -15,7 +15,8 @@ use Rattle.network.specs.declared.layout.Layout.{Layout}
 use Rattle.network.specs.declared.records.Bus.{Bus}
 use Rattle.network.specs.declared.records.Generator.{Generator}
 use Rattle.network.specs.declared.records.Branch.{Branch}
-use Rattle.network.specs.Layout.{busRecord, Laid, GeneratorRead, BranchRead}
+use Rattle.network.specs.Layout.{Laid}
+use Rattle.network.specs.contracts.Records.{busRecord, GeneratorRead, BranchRead}
 use Rattle.network.proofs.Form.{branch-word}
 use Rattle.acopf.specs.Columns.{vmLower, vmUpper}
 use Rattle.acopf.specs.Rows.{rated}

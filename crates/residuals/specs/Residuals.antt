@@ -10,7 +10,7 @@ use Rattle.fdlibm.specs.Hypot.{hypotenuse}
 use Rattle.network.specs.Network.{buses, generators, branches, references, from, to, angled, referred, curved, columns}
 use Rattle.network.specs.Network.{angleMin, angleMax, sMax}
 use Rattle.bounds.specs.Bounds.{positiveViolation}
-use Rattle.acopf.specs.Curve.{curveValue}
+use Rattle.piecewise_cost.specs.Curve.{curveValue}
 use Rattle.acopf.specs.Columns.{columnLower, columnUpper}
 use Rattle.acopf.specs.Rows.{rated}
 use Rattle.derived.specs.Outputs.{va, pg, epigraph, withdrawn, pInjection, qInjection, pFrom, qFrom, pTo, qTo, ownObjective}

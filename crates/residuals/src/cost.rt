@@ -12,7 +12,7 @@ ghost use lib.ListN.{length};
 ghost use Rattle.float.specs.Number.{_⊕_, _⊖_, _⊗_, zero64, half64, maximum};
 ghost use Rattle.network.specs.Limits.{pointNumbers, mostPoints};
 ghost use Rattle.network.specs.Network.{number};
-ghost use Rattle.acopf.specs.Curve.{evaluate};
+ghost use Rattle.piecewise_cost.specs.Curve.{evaluate};
 ghost use Rattle.derived.specs.contracts.Agree.{Ready};
 ghost use Rattle.residuals.specs.contracts.Derived.{CostsAre};
 
@@ -28,7 +28,7 @@ fn generator_cost(numbers: &[f64], generator: Generator, p: f64) -> f64
         (half64 ⊗ generator .«cost_q» ⊗ (p ⊗ p) ⊕ generator .«cost_c» ⊗ p ⊕ generator .«cost_0») ⌝ }
 {
     if generator.curved {
-        return acopf::curve_value(numbers, generator.curve, generator.points, p);
+        return piecewise_cost::curve_value(numbers, generator.curve, generator.points, p);
     }
     0.5 * generator.cost_q * (p * p) + generator.cost_c * p + generator.cost_0
 }

@@ -13,7 +13,8 @@ use Rattle.base.proofs.Sections.{each-none, each-next, each-fits, wrote-front, 
 use Rattle.float.specs.Number.{zero64}
 use Rattle.network.specs.declared.layout.Layout.{Layout}
 use Rattle.network.specs.declared.records.Branch.{Branch}
-use Rattle.network.specs.Layout.{BranchRead, branchRecord}
+use Rattle.network.specs.Layout.{branchRecord}
+use Rattle.network.specs.contracts.Records.{BranchRead}
 use Rattle.network.specs.Network.{angled}
 use Rattle.acopf.specs.declared.tallies.Tallies.{Tallies}
 use Rattle.rows.specs.contracts.Bounds.{angleBound, angleBounds, rowBounds}

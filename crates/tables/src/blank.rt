@@ -16,7 +16,8 @@ ghost use Rattle.base.specs.Fault.{orElse, first};
 ghost use Rattle.network.specs.Limits.{pointNumbers};
 ghost use Rattle.network.specs.Network.{points, busAt, generatorAt, curveAt, branchAt};
 ghost use Rattle.tables.specs.Fault.{blanks, faultBlank};
-ghost use Rattle.network.specs.Layout.{Laid, Standing};
+ghost use Rattle.network.specs.Layout.{Laid};
+ghost use Rattle.network.specs.contracts.Records.{Standing};
 
 // `count` numbers from `at` on.
 fn blanks(numbers: &[f64], at: usize, count: usize) -> Fault

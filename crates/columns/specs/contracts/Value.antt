@@ -9,8 +9,8 @@ use Rattle.bounds.specs.Bounds.{huge64, finiteOr, clampStart}
 use Rattle.network.specs.declared.records.Bus.{Bus}
 use Rattle.network.specs.declared.records.Generator.{Generator}
 use Rattle.network.specs.Network.{curved}
-use Rattle.network.specs.Layout.{busRecord, generatorRecord}
-use Rattle.acopf.specs.Curve.{evaluate}
+use Rattle.network.specs.contracts.Records.{busRecord, generatorRecord}
+use Rattle.piecewise_cost.specs.Curve.{evaluate}
 use Rattle.columns.specs.declared.ColumnList.{ColumnList}
 use Rattle.columns.specs.declared.ColumnList.the-variants.{Lower, Upper, Start}
 

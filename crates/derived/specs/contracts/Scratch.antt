@@ -10,7 +10,7 @@ use Rattle.float.specs.Number.{_⊕_, _⊖_, _⊗_, isFinite}
 use Rattle.network.specs.Limits.{mostBuses, mostBranches}
 use Rattle.network.specs.Network.{pD, qD, gS, bS}
 use Rattle.network.specs.declared.layout.Layout.{Layout}
-use Rattle.acopf.specs.Flow.{re, im, voltage}
+use Rattle.pi_model.specs.Flow.{re, im, voltage}
 use Rattle.derived.specs.contracts.Agree.{At, PerBus}
 use Rattle.derived.specs.Outputs.{vm, pInjection, qInjection, flows, pFrom, qFrom, pTo, qTo}
 

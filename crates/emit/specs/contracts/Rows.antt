@@ -8,7 +8,7 @@ use Rattle.float.specs.Number.{_⊗_}
 use Rattle.nl.specs.Expr.{Expr, column, shared}
 use Rattle.network.specs.Network.{from, to, angled, referred, rated, sMax, curved, segments, curveAt, epigraphColumn, pgColumn}
 use Rattle.acopf.specs.Build.{literal, add, subtract, square, scaled}
-use Rattle.acopf.specs.Curve.{slope, intercept}
+use Rattle.piecewise_cost.specs.Curve.{slope, intercept}
 use Rattle.writer.specs.contracts.Tokens.{Token, partTokens}
 
 abbrev pub referenceTokens : List ℕ → ℕ → List Token

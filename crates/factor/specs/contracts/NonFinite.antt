@@ -14,8 +14,8 @@ use Rattle.network.specs.Network.{buses, branches, generators, curved, curveAt,
 use Rattle.acopf.specs.Columns.{epigraphStart}
 use Rattle.acopf.specs.Factor.{constants64}
 use Rattle.acopf.specs.Model.{objectiveConstant}
-use Rattle.acopf.specs.Curve.{slope, intercept}
-use Rattle.acopf.specs.Flow.{coefficients}
+use Rattle.piecewise_cost.specs.Curve.{slope, intercept}
+use Rattle.pi_model.specs.Flow.{coefficients}
 use Rattle.acopf.specs.Tallies.{rowSegments, segmentsBefore}
 
 abbrev pub nonFinite : Float → ℕ → Fault

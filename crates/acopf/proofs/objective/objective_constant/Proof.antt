@@ -2,7 +2,7 @@ use borrow.Author.Needs.{needs}
 use native.Mathlib.Omega.{arith}
 use mathlib.Core.Path.{_≡_, sym, ap}
 use Prim.Native.Nat.{_-_}
-use Rattle.network.specs.Layout.{Standing}
+use Rattle.network.specs.contracts.Records.{Standing}
 use Rattle.network.specs.Network.{generators}
 use Rattle.acopf.specs.Model.{objectiveConstant}
 use Rattle.acopf.proofs.Tallied.{costsBefore, costs-none, costs-turn}

@@ -1,7 +1,7 @@
 use native.Mathlib.Omega.{arith}
 use mathlib.Core.Path.{_≡_, sym}
 use Prim.Native.Nat.{_-_, _*_, _≤_}
-use Rattle.network.specs.Layout.{Standing}
+use Rattle.network.specs.contracts.Records.{Standing}
 use Rattle.network.specs.Limits.{mostPoints}
 use Rattle.network.specs.Network.{epigraphsBefore}
 use Rattle.acopf.specs.Tallies.{segmentsBefore}

@@ -4,7 +4,7 @@ use native.Mathlib.Omega.{arith}
 use lib.ListN.{length}
 use Rattle.base.specs.contracts.Section.{Wrote}
 use Rattle.base.proofs.Sections.{each-none}
-use Rattle.network.specs.Layout.{Standing}
+use Rattle.network.specs.contracts.Records.{Standing}
 use Rattle.columns.specs.contracts.Value.{epigraphStarts}
 use Rattle.columns.proofs.Front.{epigraph-room, epigraph-turn}
 use borrow.Author.Needs.{needs}

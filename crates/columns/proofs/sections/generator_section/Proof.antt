@@ -4,7 +4,7 @@ use native.Mathlib.Omega.{arith}
 use lib.ListN.{length}
 use Rattle.base.specs.contracts.Section.{Wrote}
 use Rattle.base.proofs.Sections.{table-none, table-next}
-use Rattle.network.specs.Layout.{Standing, generatorRecord}
+use Rattle.network.specs.contracts.Records.{Standing, generatorRecord}
 use Rattle.columns.specs.contracts.Value.{generatorValue, generatorColumns}
 use borrow.Author.Needs.{needs}
 use Rattle.columns.proofs.sections.generator_section.Statement.{statement}

@@ -4,7 +4,7 @@ use native.Mathlib.Omega.{arith}
 use lib.ListN.{length}
 use Rattle.base.specs.contracts.Section.{Wrote}
 use Rattle.base.proofs.Sections.{table-none, table-next}
-use Rattle.network.specs.Layout.{busRecord}
+use Rattle.network.specs.contracts.Records.{busRecord}
 use Rattle.columns.specs.contracts.Value.{vaValue, vaStarts}
 use borrow.Author.Needs.{needs}
 use Rattle.columns.proofs.sections.va_starts.Statement.{statement}

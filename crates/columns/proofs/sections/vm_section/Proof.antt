@@ -4,7 +4,7 @@ use native.Mathlib.Omega.{arith}
 use lib.ListN.{length}
 use Rattle.base.specs.contracts.Section.{Wrote}
 use Rattle.base.proofs.Sections.{table-none, table-next}
-use Rattle.network.specs.Layout.{busRecord}
+use Rattle.network.specs.contracts.Records.{busRecord}
 use Rattle.columns.specs.contracts.Value.{vmValue, vmColumns}
 use Rattle.columns.proofs.Front.{vm-turn}
 use borrow.Author.Needs.{needs}

@@ -5,7 +5,7 @@ use Prim.Native.Nat.{ℕ, _*_, _-_}
 use lib.Ieee.{Float}
 use lib.ListN.{length, length-set}
 use Rattle.network.specs.Network.{generators}
-use Rattle.network.specs.Layout.{Standing}
+use Rattle.network.specs.contracts.Records.{Standing}
 use Rattle.derived.specs.contracts.Agree.{PerBus, Kept}
 use Rattle.derived.specs.Outputs.{pg, qg}
 use Rattle.derived.proofs.Scratch.{Injected, injected-none, injected-all, kept-two}

@@ -5,7 +5,7 @@ use Prim.Native.Nat.{_+_, _-_, _≤_}
 use lib.ListN.{length, length-set, getD}
 use lib.Ieee.{nan}
 use Rattle.network.specs.Network.{number}
-use Rattle.acopf.specs.Flow.{re, im, polar}
+use Rattle.pi_model.specs.Flow.{re, im, polar}
 use Rattle.derived.specs.contracts.Agree.{PerBus}
 use Rattle.derived.proofs.Scratch.{per-bus-next}
 use Rattle.derived.proofs.Turns.{voltages-are}

@@ -4,7 +4,7 @@ use Prim.Native.Nat.{_-_, _≤_}
 use mathlib.Core.Path.{_≡_, sym}
 use lib.ListN.{length}
 use Rattle.base.specs.Loop.{each}
-use Rattle.network.specs.Layout.{Standing}
+use Rattle.network.specs.contracts.Records.{Standing}
 use Rattle.network.specs.Network.{epigraphsBefore}
 use Rattle.acopf.proofs.Tallied.{epigraphs-none, epigraphs-turn}
 use Rattle.writer.specs.contracts.Tokens.{Written}

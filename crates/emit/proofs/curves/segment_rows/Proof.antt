@@ -6,7 +6,7 @@ use lib.ListN.{length}
 use lib.Ieee.{Float}
 use borrow.Author.Needs.{needs}
 use Rattle.base.specs.Loop.{each}
-use Rattle.acopf.specs.Curve.{slope, intercept}
+use Rattle.piecewise_cost.specs.Curve.{slope, intercept}
 use Rattle.writer.specs.contracts.Tokens.{Written, partTokens}
 use Rattle.emit.specs.contracts.Rows.{segmentOf, segmentTokens}
 use Rattle.writer.proofs.Tokens.{turns-none, turns-step, turns-room}

@@ -4,7 +4,7 @@ use Prim.Native.Nat.{_-_, _*_, _≤_}
 use Rattle.base.specs.Fault.{first}
 use Rattle.base.proofs.Firsts.{Clear}
 use Rattle.base.proofs.Turns.{first-none, first-step, first-here, first-done}
-use Rattle.acopf.specs.Flow.{coefficients}
+use Rattle.pi_model.specs.Flow.{coefficients}
 use Rattle.factor.specs.contracts.NonFinite.{coefficientsFault, branchesFactor}
 use Rattle.factor.proofs.Turns.{coefficients-proper, coefficients-read}
 use borrow.Author.Needs.{needs}

@@ -4,7 +4,7 @@ use Prim.Native.Nat.{_+_, _-_, _*_, _≤_}
 use Rattle.base.specs.Fault.{first}
 use Rattle.base.proofs.Firsts.{Clear}
 use Rattle.base.proofs.Turns.{first-none, first-step, first-here, first-done}
-use Rattle.network.specs.Layout.{Standing}
+use Rattle.network.specs.contracts.Records.{Standing}
 use Rattle.acopf.specs.Tallies.{segmentsBefore}
 use Rattle.acopf.proofs.Tallied.{segments-none}
 use Rattle.factor.specs.contracts.NonFinite.{curvesFactor}

@@ -5,7 +5,7 @@ use Rattle.base.specs.Fault.{first}
 use Rattle.base.specs.Refusal.{FACTOR}
 use Rattle.base.proofs.Firsts.{Clear, unless-proper}
 use Rattle.base.proofs.Turns.{first-none, first-step, first-here, first-done}
-use Rattle.network.specs.Layout.{Standing}
+use Rattle.network.specs.contracts.Records.{Standing}
 use Rattle.network.specs.Network.{epigraphsBefore}
 use Rattle.acopf.proofs.Tallied.{epigraphs-none, epigraphs-le}
 use Rattle.factor.specs.contracts.NonFinite.{epigraphsFactor}

@@ -4,7 +4,7 @@ use mathlib.Core.Path.{_≡_, ap, refl}
 use Prim.Native.Nat.{_-_}
 use borrow.Author.Tests.{not-true, not-false}
 use Rattle.network.specs.Network.{generators}
-use Rattle.network.specs.Layout.{Standing}
+use Rattle.network.specs.contracts.Records.{Standing}
 use Rattle.residuals.proofs.Costs.{Walked, walked-none, column-few, column-room, walked-turn, walked-all, costs-none}
 use Rattle.residuals.proofs.cost.costs_at.Statement.{statement}
 use Rattle.residuals.proofs.cost.costs_at.Tie as tie

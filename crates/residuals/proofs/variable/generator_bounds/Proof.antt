@@ -3,7 +3,7 @@ use native.Mathlib.Omega.{arith}
 use mathlib.Core.Path.{_≡_, ap, _∙_}
 use Prim.Native.Nat.{_-_}
 use Rattle.float.specs.Number.{maximum}
-use Rattle.network.specs.Layout.{Standing}
+use Rattle.network.specs.contracts.Records.{Standing}
 use Rattle.residuals.specs.contracts.Section.{outside, generatorLower, generatorUpper, largestWith}
 use Rattle.residuals.proofs.Section.{with-none, with-next}
 use Rattle.acopf.proofs.Tallied.{epigraphs-le}

@@ -7,7 +7,7 @@ use Rattle.base.specs.Fault.{orElse, first}
 use Rattle.tables.specs.Fault.{blanks}
 use Rattle.network.specs.Limits.{pointNumbers}
 use Rattle.network.specs.Network.{points, generatorAt, curveAt}
-use Rattle.network.specs.Layout.{Standing}
+use Rattle.network.specs.contracts.Records.{Standing}
 use Rattle.tables.proofs.Steps.{blanks-proper}
 use Rattle.tables.proofs.blank.blank_generators.Statement.{statement}
 use Rattle.tables.proofs.blank.blank_generators.Tie as tie

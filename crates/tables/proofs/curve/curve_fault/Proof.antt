@@ -9,7 +9,7 @@ use Rattle.base.specs.Fault.{fault, unless, first}
 use Rattle.tables.specs.Fault.{faultCurve}
 use Rattle.network.specs.Limits.{pointNumbers}
 use Rattle.network.specs.Network.{segments, curveAt, power}
-use Rattle.network.specs.Layout.{Standing}
+use Rattle.network.specs.contracts.Records.{Standing}
 use Rattle.tables.proofs.curve.curve_fault.Statement.{statement}
 use Rattle.tables.proofs.curve.curve_fault.Tie as tie
 

@@ -7,7 +7,7 @@ use Rattle.base.proofs.Turns.{first-none, first-step, first-here, first-done}
 use Rattle.base.specs.Fault.{fault, unless, orElse, first}
 use Rattle.bounds.specs.Bounds.{boundsRight}
 use Rattle.network.specs.Network.{capable, pMin, pMax, qMin, qMax, pgColumn, qgColumn}
-use Rattle.network.specs.Layout.{Standing}
+use Rattle.network.specs.contracts.Records.{Standing}
 use Rattle.tables.proofs.ranges.bounds_of_generators.Statement.{statement}
 use Rattle.tables.proofs.ranges.bounds_of_generators.Tie as tie
 
