@@ -6,8 +6,6 @@ mod values;
 pub use lists::write_column_lower;
 pub use lists::write_column_start;
 pub use lists::write_column_upper;
-pub use values::vm_lower;
-pub use values::vm_upper;
 
 // Which of the three lists.
 pub(crate) enum ColumnList {

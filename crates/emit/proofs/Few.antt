@@ -120,7 +120,7 @@ module _ (ws : List ℕ) (xs : List Float) where
 
 -- ---- the whole
 
-pub shared-most : (ws : List ℕ) (xs : List Float) (n m : ℕ) → length (sharedTokens ws xs n m) ≤ 3 * n + 62 * m
+shared-most : (ws : List ℕ) (xs : List Float) (n m : ℕ) → length (sharedTokens ws xs n m) ≤ 3 * n + 62 * m
 unfolding sharedTokens
 shared-most ws xs n m =
     let u : ℕ → List Token = λ i. partTokens 10 (square (column (n + i)) ∷ []) in

@@ -36,7 +36,7 @@ numbers-append (fixed w ∷ u) v = numbers-append u v
 numbers-append (numbered x ∷ u) v = ap (λ (l : List Float). ofBits binary64 x ∷ l) (numbers-append u v)
 numbers-append (begins w ∷ u) v = numbers-append u v
 
-pub begun-append : (u v : List Token) → begun (u ++ v) ≡ begun u + begun v
+begun-append : (u v : List Token) → begun (u ++ v) ≡ begun u + begun v
 begun-append [] v = sym (zero-add _)
 begun-append (fixed w ∷ u) v = begun-append u v
 begun-append (numbered x ∷ u) v = begun-append u v
@@ -89,7 +89,7 @@ module _ {A : Type 0} where
   unfolding each loop
   each-zero f = refl
 
-  each-suc : (n : ℕ) (f : ℕ → List A) → each (suc n) f ≡ each n f ++ f n
+  pub each-suc : (n : ℕ) (f : ℕ → List A) → each (suc n) f ≡ each n f ++ f n
   unfolding each loop
   each-suc n f = refl
 
@@ -175,7 +175,7 @@ mutual
   numbers-are (shared s) = refl
   numbers-are (over kind ts) = numbers-are-of ts
 
-  pub numbers-are-of : (ts : Terms) → map (ofBits binary64) (constantsOf ts) ≡ numbersOf (tokensOf ts)
+  numbers-are-of : (ts : Terms) → map (ofBits binary64) (constantsOf ts) ≡ numbersOf (tokensOf ts)
   numbers-are-of none = refl
   numbers-are-of (more e ts) = rw (map-append (ofBits binary64) (constants e) (constantsOf ts), numbers-append (tokens e) (tokensOf ts), numbers-are e, numbers-are-of ts)
 
@@ -191,19 +191,19 @@ mutual
   words-are k i (shared s) = refl
   words-are k i (over kind ts) = rw (word-load kind (count ts)) (ap (λ (l : List ℕ). word kind (cond (ltb kind 9) 0 (count ts)) ∷ l) (words-are-of k i ts))
 
-  pub words-are-of : (k i : ℕ) (ts : Terms) → wordsOf k ts ≡ wordsFrom k i (tokensOf ts)
+  words-are-of : (k i : ℕ) (ts : Terms) → wordsOf k ts ≡ wordsFrom k i (tokensOf ts)
   words-are-of k i none = refl
   words-are-of k i (more e ts) =
       rw (words-append k i (tokens e) (tokensOf ts), words-are k i e, words-are-of (next k e) (i + begun (tokens e)) ts, next-is k e)
 
 mutual
-  pub no-beginning : (e : Expr) → begun (tokens e) ≡ 0
+  no-beginning : (e : Expr) → begun (tokens e) ≡ 0
   no-beginning (constant b) = refl
   no-beginning (column j) = refl
   no-beginning (shared s) = refl
   no-beginning (over kind ts) = no-beginning-of ts
 
-  pub no-beginning-of : (ts : Terms) → begun (tokensOf ts) ≡ 0
+  no-beginning-of : (ts : Terms) → begun (tokensOf ts) ≡ 0
   no-beginning-of none = refl
   no-beginning-of (more e ts) = rw (begun-append (tokens e) (tokensOf ts), no-beginning e, no-beginning-of ts)
 
