@@ -11,17 +11,17 @@ use lib.Ieee.{Float, nan, inf, fin, lt, isNan, ofBits}
 use borrow.Author.Tests.{le-leb, leb-true, leb-false, eq-eqb, not-true}
 use Rattle.base.proofs.Firsts.{Clear, or-go, or-clear, unless-clear, unless-true, all-clear, first-clear, first-fails}
 use Rattle.base.proofs.Loops.{Block}
-use Rattle.base.specs.Fault.{clear, fault, unless}
+use Rattle.base.specs.Fault.{fault, unless}
 use Rattle.base.specs.declared.Fault.{Fault}
 use Rattle.float.specs.Number.{isFinite, absolute}
 use Rattle.float.proofs.Really.{Number}
-use Rattle.network.specs.Network.{buses, branches, columns}
-use Rattle.acopf.specs.Factor.{firstNonFinite, networkFault}
+use Rattle.network.specs.Network.{buses, columns}
+use Rattle.acopf.specs.Factor.{firstNonFinite}
 use Rattle.acopf.proofs.Finite.{non-finite-clear}
 use Rattle.derived.specs.Outputs.{pInjection, qInjection, flows, pFrom, qFrom, pTo, qTo, outputs}
 use Rattle.derived.proofs.Outputs.{outputs-at}
 use Rattle.residuals.specs.Residuals.{pBalance, qBalance, activeBalance, reactiveBalance, residuals}
-use Rattle.validate.specs.Check.{tiny64, tolerances, solved, faultOutput, faultPoint, faultSwing, faultDerived, faultResidual, checkFault}
+use Rattle.validate.specs.Check.{tiny64, tolerances, solved, faultOutput, faultPoint, faultSwing, faultResidual, checkFault}
 use Rattle.validate.proofs.Order.{check-is}
 use Rattle.accepted.specs.Accepted.{Sound, Within}
 use Rattle.accepted.proofs.Accepts.{derived-exactly, zero-within}

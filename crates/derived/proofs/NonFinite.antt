@@ -25,10 +25,6 @@ first-sum m (suc n) f p =
     rw (e, first-sum m n f p) (or-assoc (first m f) (first n (λ i. f (m + i))) (f (m + n)))
 
 module _ (number from : ℕ) where
-  pub non-finite-proper : (l : List Float) → 0 < number → Proper (nonFiniteFrom number from l)
-  unfolding nonFiniteFrom
-  non-finite-proper l h = first-proper (length l) _ (λ i. unless-proper _ number _ h)
-
   -- a list after another
   pub non-finite-append : (a b : List Float) (next : ℕ) → 0 < number → next ≡ from + length a
       → nonFiniteFrom number from (a ++ b) ≡ orElse (nonFiniteFrom number from a) (nonFiniteFrom number next b)

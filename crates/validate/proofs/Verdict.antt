@@ -2,7 +2,7 @@
 use mathlib.Core.Path.{_≡_, ap, sym, _∙_}
 use mathlib.Core.Bool.{not}
 use mathlib.Core.List.{List, [], _∷_, _++_}
-use Prim.Native.Nat.{ℕ, _+_, _*_, _<_, _≤_}
+use Prim.Native.Nat.{ℕ, _+_, _*_}
 use native.Mathlib.Omega.{arith}
 use lib.ListN.{length, take, drop, getD}
 use lib.Ieee.{Float, nan, lt}
@@ -16,7 +16,7 @@ use Rattle.network.specs.Network.{buses, branches}
 use Rattle.network.specs.declared.layout.Layout.{Layout}
 use Rattle.network.specs.Layout.{Laid}
 use Rattle.acopf.specs.Factor.{firstNonFinite, networkFault}
-use Rattle.derived.specs.Outputs.{ownObjective, flows, outputs}
+use Rattle.derived.specs.Outputs.{flows, outputs}
 use Rattle.derived.specs.contracts.Scratch.{Held}
 use Rattle.derived.proofs.Scratch.{front-outputs}
 use Rattle.derived.proofs.Outputs.{length-outputs}

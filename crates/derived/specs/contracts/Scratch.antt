@@ -1,6 +1,5 @@
 -- What the check's scratch holds: each bus's voltage in one list, and in another the outputs in their order.
 use mathlib.Core.List.{List}
-use mathlib.Core.Path.{_≡_}
 use Prim.Native.Nat.{ℕ, _+_, _*_, _≤_}
 use lib.ListN.{length, getD}
 use lib.Ieee.{Float, nan, neg}

@@ -35,17 +35,25 @@ same-length c = search needs
 
 returns : tie.Need-returns
 returns c =
-    measures-15 _ (c .before .before .before .before .before .before .before .before .before .before .before .before .before .before .before .pre .0 .laid) (c .before .before .before .before .before .before .before .before .before .fill-outputs .ensures) (c .before .before .before .before .before .before .costs-at .ensures) (c .before .before .derived-fault .ensures) _ (c .if1 .taken)
+    let pre = c .before .before .before .before .before .before .before .before .before .before .before .before .before .before .before .pre in
+    let held = c .before .before .before .before .before .before .before .before .before .fill-outputs .ensures in
+    let costs = c .before .before .before .before .before .before .costs-at .ensures in
+    measures-15 _ (pre .0 .laid) held costs (c .before .before .derived-fault .ensures) _ (c .if1 .taken)
 
 residuals-at-requires : tie.Need-residuals-at-requires
-residuals-at-requires c κs = (c .before .before .before .before .before .before .before .before .before .before .before .before .before .before .before .before .pre .0, c .before .before .before .before .before .before .before .before .before .before .fill-outputs .ensures, c .before .before .before .before .before .before .before .costs-at .ensures)
+residuals-at-requires c κs =
+    let pre = c .before .before .before .before .before .before .before .before .before .before .before .before .before .before .before .before .pre in
+    (pre .0, c .before .before .before .before .before .before .before .before .before .before .fill-outputs .ensures, c .before .before .before .before .before .before .before .costs-at .ensures)
 
 same-length-2 : tie.Need-same-length-2
 same-length-2 c = search needs
 
 returns-2 : tie.Need-returns-2
 returns-2 c =
-    measures-0 _ (c .before .before .before .before .before .before .before .before .before .before .before .before .before .before .before .before .before .pre .0 .laid) (c .before .before .before .before .before .before .before .before .before .before .before .fill-outputs .ensures) (c .before .before .before .before .before .before .before .before .costs-at .ensures) (c .before .before .before .before .derived-fault .ensures) _ (c .residuals-at .ensures)
+    let pre = c .before .before .before .before .before .before .before .before .before .before .before .before .before .before .before .before .before .pre in
+    let held = c .before .before .before .before .before .before .before .before .before .before .before .fill-outputs .ensures in
+    let costs = c .before .before .before .before .before .before .before .before .costs-at .ensures in
+    measures-0 _ (pre .0 .laid) held costs (c .before .before .before .before .derived-fault .ensures) _ (c .residuals-at .ensures)
 
 pub measure-spec : {M : Type 1} → statement M
 measure-spec =

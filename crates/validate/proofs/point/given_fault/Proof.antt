@@ -1,6 +1,6 @@
 use native.Mathlib.Omega.{arith}
 use mathlib.Core.Path.{ap, sym, _∙_}
-use Rattle.base.proofs.Firsts.{Clear, or-go, or-stop}
+use Rattle.base.proofs.Firsts.{or-go, or-stop}
 use Rattle.validate.proofs.Entry.{columns-are}
 use Rattle.validate.proofs.point.given_fault.Statement.{statement}
 use Rattle.validate.proofs.point.given_fault.Tie as tie

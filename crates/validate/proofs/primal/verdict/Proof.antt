@@ -19,7 +19,8 @@ returns : tie.Need-returns
 returns c =
     let pre = c .before .before .before .before .before .before .before .before .before .before .before .pre in
     let outputs = c .before .before .before .before .before .before .before .before .before .before .before .args .outputs .now in
-    says-15 (pre .0 .laid) (c .before .before .before .before .before .measure .ensures) outputs (pre .2) (c .refused .result) (c .refused .ensures) (c .before .if1 .taken)
+    let measured = c .before .before .before .before .before .measure .ensures in
+    says-15 (pre .0 .laid) measured outputs (pre .2) (c .refused .result) (c .refused .ensures) (c .before .if1 .taken)
 
 residual-fault-requires : tie.Need-residual-fault-requires
 residual-fault-requires c κs = search needs
@@ -28,7 +29,9 @@ returns-2 : tie.Need-returns-2
 returns-2 c =
     let pre = c .before .before .before .before .before .before .before .before .before .before .before .before .before .before .pre in
     let outputs = c .before .before .before .before .before .before .before .before .before .before .before .before .before .before .args .outputs .now in
-    says-16 (pre .0 .laid) (c .before .before .before .before .before .before .before .before .measure .ensures) outputs (pre .2) (c .before .before .before .before .if1 .left) (c .before .before .residual-fault .result) (c .before .before .residual-fault .ensures) (c .if2 .taken)
+    let measured = c .before .before .before .before .before .before .before .before .measure .ensures in
+    let above = c .before .before .residual-fault in
+    says-16 (pre .0 .laid) measured outputs (pre .2) (c .before .before .before .before .if1 .left) (above .result) (above .ensures) (c .if2 .taken)
 
 slice-aggregate-copy-front : tie.Need-slice-aggregate-copy-front
 slice-aggregate-copy-front c = search needs
@@ -51,7 +54,8 @@ add-copy-front c =
 copy-front-requires : tie.Need-copy-front-requires
 copy-front-requires c κs =
     let L = c .before .before .before .before .before .before .before .before .before .before .before .before .before .before .before .before .before .before .pre .0 .laid .words in
-    (omega (arith, L .few-buses, L .few-branches, c .before .before .before .before .before .before .before .before .before .before .before .before .measure .kept .1 .1 .1 .1 .1 .0), c .before .before .before .before .before .before .before .before .before .before .before .before .before .before .before .before .before .before .pre .1)
+    let kept = c .before .before .before .before .before .before .before .before .before .before .before .before .measure .kept .1 .1 .1 .1 .1 .0 in
+    (omega (arith, L .few-buses, L .few-branches, kept), c .before .before .before .before .before .before .before .before .before .before .before .before .before .before .before .before .before .before .pre .1)
 
 same-length : tie.Need-same-length
 same-length c = search needs
@@ -61,7 +65,9 @@ returns-3 c =
     let pre = c .before .before .before .before .before .before .before .before .before .before .before .before .before .before .before .before .before .before .before .before .before .pre in
     let outputs = c .before .before .before .before .before .before .before .before .before .before .before .before .before .before .before .before .before .before .before .before .before .args .outputs .now in
     let above = c .before .before .before .before .before .before .before .before .before .residual-fault in
-    says-0 (pre .0 .laid) (c .before .before .before .before .before .before .before .before .before .before .before .before .before .before .before .measure .ensures) outputs (pre .2) (c .before .before .before .before .before .before .before .before .before .before .before .if1 .left) (above .result) (above .ensures) _ (c .before .before .before .before .before .before .before .if2 .left) (c .before .before .copy-front .ensures)
+    let measured = c .before .before .before .before .before .before .before .before .before .before .before .before .before .before .before .measure .ensures in
+    let finite = c .before .before .before .before .before .before .before .before .before .before .before .if1 .left in
+    says-0 (pre .0 .laid) measured outputs (pre .2) finite (above .result) (above .ensures) _ (c .before .before .before .before .before .before .before .if2 .left) (c .before .before .copy-front .ensures)
 
 pub verdict-spec : {M : Type 1} → statement M
 verdict-spec =

@@ -49,7 +49,10 @@ same-length : tie.Need-same-length
 same-length c = search needs
 
 returns-2 : tie.Need-returns-2
-returns-2 c = report-0 (c .before .before .before .before .before .before .before .before .before .before .measure .ensures) (c .before .before .before .before .before .before .before .before .before .before .before .before .before .before .before .before .args .report .now) (c .before .before .before .before .before .before .before .before .before .before .before .before .before .before .before .before .pre .2) _ (c .before .before .before .before .before .before .if1 .left) (c .before .before .copy-front .ensures)
+returns-2 c =
+    let pre = c .before .before .before .before .before .before .before .before .before .before .before .before .before .before .before .before .pre in
+    let before = c .before .before .before .before .before .before .before .before .before .before .before .before .before .before .before .before .args .report .now in
+    report-0 (c .before .before .before .before .before .before .before .before .before .before .measure .ensures) before (pre .2) _ (c .before .before .before .before .before .before .if1 .left) (c .before .before .copy-front .ensures)
 
 pub settle-spec : {M : Type 1} → statement M
 settle-spec =
