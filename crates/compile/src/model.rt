@@ -2,12 +2,12 @@
 use crate::Compiled;
 use crate::decide::Decision;
 use crate::decide::decided;
+use acopf::Tallies;
 use columns::write_column_lower;
 use columns::write_column_start;
 use columns::write_column_upper;
 use emit::write_model;
-use network::Sizes;
-use network::sizes_of;
+use network::Layout;
 use rows::write_row_lower;
 use rows::write_row_upper;
 ghost use mathlib.Core.Path.{_≡_};
@@ -15,10 +15,11 @@ ghost use mathlib.Core.List.{_++_};
 ghost use Prim.Native.Nat.{_≤_};
 ghost use lib.ListN.{length, drop};
 ghost use Rattle.float.specs.Doubles.{Doubles};
-ghost use Rattle.network.specs.Network.{buses, generators, branches, references, columns};
-ghost use Rattle.tables.specs.Fault.{faultTables};
+ghost use Rattle.network.specs.Layout.{Laid};
+ghost use Rattle.network.specs.Network.{columns};
 ghost use Rattle.acopf.specs.Columns.{columnLower, columnUpper, columnStart};
 ghost use Rattle.acopf.specs.Rows.{rows, rowLower, rowUpper};
+ghost use Rattle.acopf.specs.Tallies.{Tallied};
 ghost use Rattle.compile.specs.Compile.{compiled};
 ghost use Rattle.compile.specs.Lists.{lists, lent, Held};
 
@@ -26,13 +27,14 @@ ghost use Rattle.compile.specs.Lists.{lists, lent, Held};
 fn write_columns(
     words: &[u32],
     numbers: &[f64],
-    sizes: Sizes,
+    layout: Layout,
+    tallies: Tallies,
     lower: &mut [f64],
     upper: &mut [f64],
     start: &mut [f64],
 )
     requires { ⌜ (let ws = now words in
-        (sizes .buses ≡ buses ws) × (sizes .generators ≡ generators ws) × (faultTables ws (now numbers) .number ≡ 0)
+        Laid ws (now numbers) layout × Tallied ws (now numbers) tallies
         × (columns ws ≤ length (now lower)) × (columns ws ≤ length (now upper)) × (columns ws ≤ length (now start))) ⌝ }
     ensures { λ _. ⌜ (let ws = now (words .entry) in
         let xs = now (numbers .entry) in
@@ -40,24 +42,30 @@ fn write_columns(
         × (now (upper .exit) ≡ columnUpper ws xs ++ drop (length (columnUpper ws xs)) (now (upper .entry)))
         × (now (start .exit) ≡ columnStart ws xs ++ drop (length (columnStart ws xs)) (now (start .entry)))) ⌝ }
 {
-    write_column_lower(words, numbers, sizes, lower);
-    write_column_upper(words, numbers, sizes, upper);
-    write_column_start(words, numbers, sizes, start);
+    write_column_lower(words, numbers, layout, tallies, lower);
+    write_column_upper(words, numbers, layout, tallies, upper);
+    write_column_start(words, numbers, layout, start);
 }
 
 // The rows' two lists.
-fn write_rows(words: &[u32], numbers: &[f64], sizes: Sizes, lower: &mut [f64], upper: &mut [f64])
-    requires { ⌜ (let ws = now words in
-        let xs = now numbers in
-        (sizes .buses ≡ buses ws) × (sizes .generators ≡ generators ws) × (sizes .branches ≡ branches ws) × (sizes .references ≡ references ws)
-        × (faultTables ws xs .number ≡ 0) × (length (rows ws xs) ≤ length (now lower)) × (length (rows ws xs) ≤ length (now upper))) ⌝ }
+fn write_rows(
+    words: &[u32],
+    numbers: &[f64],
+    layout: Layout,
+    tallies: Tallies,
+    lower: &mut [f64],
+    upper: &mut [f64],
+)
+    requires { ⌜ (let count = length (rows (now words) (now numbers)) in
+        Laid (now words) (now numbers) layout × Tallied (now words) (now numbers) tallies
+        × (count ≤ length (now lower)) × (count ≤ length (now upper))) ⌝ }
     ensures { λ _. ⌜ (let ws = now (words .entry) in
         let xs = now (numbers .entry) in
         (now (lower .exit) ≡ rowLower ws xs ++ drop (length (rowLower ws xs)) (now (lower .entry)))
         × (now (upper .exit) ≡ rowUpper ws xs ++ drop (length (rowUpper ws xs)) (now (upper .entry)))) ⌝ }
 {
-    write_row_lower(words, numbers, sizes, lower);
-    write_row_upper(words, numbers, sizes, upper);
+    write_row_lower(words, numbers, layout, tallies, lower);
+    write_row_upper(words, numbers, layout, tallies, upper);
 }
 
 // compile_ac_opf_model, before augmentation. All refusals come before the first write.
@@ -95,11 +103,18 @@ pub fn compile(
     );
     match decision {
         Decision::Refused(answer) => answer,
-        Decision::Accepted(answer, layout, _) => {
-            let sizes = sizes_of(words);
+        Decision::Accepted(answer, layout, tallies) => {
             write_model(words, numbers, layout, model_words, constants);
-            write_columns(words, numbers, sizes, column_lower, column_upper, start);
-            write_rows(words, numbers, sizes, row_lower, row_upper);
+            write_columns(
+                words,
+                numbers,
+                layout,
+                tallies,
+                column_lower,
+                column_upper,
+                start,
+            );
+            write_rows(words, numbers, layout, tallies, row_lower, row_upper);
             answer
         }
     }
