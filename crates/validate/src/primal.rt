@@ -33,8 +33,52 @@ fn refused(f: Fault) -> Checked
     }
 }
 
-// 15, 16 and the outputs, where 1 to 14 are clear. The scratch list is an array of its own: nothing lent serves as scratch.
+// The scratch list of a small network: to clear the large one would take longer than its check.
+const FEW_OUTPUTS: usize = 128;
+
+// 15, 16 and the outputs, where 1 to 14 are clear; the scratch list takes the outputs until the point is accepted.
 fn verdict(
+    words: &[u32],
+    numbers: &[f64],
+    point: &[f64],
+    layout: Layout,
+    solver: f64,
+    scratch: &mut [f64],
+    outputs: &mut [f64],
+) -> Checked
+    requires { ⌜ (Ready (now words) (now numbers) (now point) layout)
+        × (2 * layout .buses + 4 * layout .branches ≤ length (now scratch))
+        × (2 * layout .buses + 4 * layout .branches ≤ length (now outputs))
+        × (let ws = now words in let xs = now numbers in let x = now point in
+        Cleared ws xs x solver (faultOutput ws xs x solver (length (now outputs)))) ⌝ }
+    ensures { λ r. ⌜ (let ws = now (words .entry) in let xs = now (numbers .entry) in let x = now (point .entry) in
+        let before = now (outputs .entry) in
+        (r ≡ checked ws xs x solver (length before)) × (now (outputs .exit) ≡ outputsAfter ws xs x solver before)) ⌝ }
+{
+    let measured = measure(words, numbers, point, layout, solver, scratch);
+    let derived = measured.fault;
+    if derived.number != 0 {
+        return refused(derived);
+    }
+    let residuals = measured.residuals;
+    let above = residual_fault(residuals);
+    if above.number != 0 {
+        return Checked {
+            fault: above,
+            objective: 0.0,
+            residuals,
+        };
+    }
+    copy_front(scratch, 2 * layout.buses + 4 * layout.branches, outputs);
+    Checked {
+        fault: refusal::CLEAR,
+        objective: measured.objective,
+        residuals,
+    }
+}
+
+// The same with scratch lists of its own: nothing lent serves as scratch.
+fn settled(
     words: &[u32],
     numbers: &[f64],
     point: &[f64],
@@ -50,27 +94,12 @@ fn verdict(
         let before = now (outputs .entry) in
         (r ≡ checked ws xs x solver (length before)) × (now (outputs .exit) ≡ outputsAfter ws xs x solver before)) ⌝ }
 {
+    if 2 * layout.buses + 4 * layout.branches <= FEW_OUTPUTS {
+        let mut few = [0.0; FEW_OUTPUTS];
+        return verdict(words, numbers, point, layout, solver, &mut few, outputs);
+    }
     let mut scratch = [0.0; MOST_OUTPUTS];
-    let measured = measure(words, numbers, point, layout, solver, &mut scratch);
-    let derived = measured.fault;
-    if derived.number != 0 {
-        return refused(derived);
-    }
-    let residuals = measured.residuals;
-    let above = residual_fault(residuals);
-    if above.number != 0 {
-        return Checked {
-            fault: above,
-            objective: 0.0,
-            residuals,
-        };
-    }
-    copy_front(&scratch, 2 * layout.buses + 4 * layout.branches, outputs);
-    Checked {
-        fault: refusal::CLEAR,
-        objective: measured.objective,
-        residuals,
-    }
+    verdict(words, numbers, point, layout, solver, &mut scratch, outputs)
 }
 
 // 12 to 16, where 1 to 11 are clear.
@@ -97,7 +126,7 @@ fn check_point(
     if given.number != 0 {
         return refused(given);
     }
-    verdict(words, numbers, point, layout, solver, outputs)
+    settled(words, numbers, point, layout, solver, outputs)
 }
 
 // Whether the point is accepted. The outputs are written only then: the list's front is all p injections, all q injections, then all

@@ -58,8 +58,8 @@ returns-2 c =
     let clear = ap (λ f. f .number) (sym short) ∙ c .before .before .before .before .if1 .left in
     stop-given ws xs x solver (args .outputs .now) (c .refused2 .ensures) (c .before .if2 .taken) (pre .0) clear given
 
-verdict-requires : tie.Need-verdict-requires
-verdict-requires c κs =
+settled-requires : tie.Need-settled-requires
+settled-requires c κs =
     let pre = c .before .before .before .before .before .before .before .before .before .before .before .before .before .pre in
     let args = c .before .before .before .before .before .before .before .before .before .before .before .before .before .args in
     let ws = args .words .now in
@@ -90,6 +90,6 @@ check-point-spec =
     given-fault-requires
     refused-requires-2
     returns-2
-    verdict-requires
+    settled-requires
     same-length
     returns-3)
