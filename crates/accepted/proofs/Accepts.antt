@@ -23,14 +23,14 @@ use Rattle.acopf.specs.Factor.{firstNonFinite, networkFault}
 use Rattle.acopf.proofs.Order.{network-proper}
 use Rattle.acopf.proofs.Finite.{non-finite-clear}
 use Rattle.accepted.proofs.Largest.{largest-law, largestWhere-law}
-use Rattle.accepted.specs.Accepted.{Within, Accepted}
+use Rattle.accepted.specs.Accepted.{NotAbove, Accepted}
 use Rattle.validate.specs.declared.Checked.{Checked}
 use Rattle.validate.specs.Check.{tiny64, tolerances, Solved, solved, faultOutput, faultPoint, faultSwing, faultDerived, faultResidual, faultOf, checkFault, checked}
 use Rattle.validate.proofs.Order.{check-is}
 use Rattle.derived.specs.Outputs.{ownObjective, flows, outputs}
 use Rattle.residuals.specs.Residuals.{activeBalance, reactiveBalance, thermalLimits, variableBounds, referenceAngles, angleLimits, epigraphs, objectiveDifference, residuals}
 
-pub zero-within : Within zero64
+pub zero-within : NotAbove zero64
 unfolding lt ofBits
 zero-within = refl
 
@@ -157,10 +157,10 @@ module _ (ws : List ℕ) (xs x : List Float) (solver : Float) where
     answered-exactly = (λ e. accepted-means (check-proper lent (sym answer-number ∙ e)), λ a. answer-number ∙ means-accepted a)
 
 -- the parts of a violation, and of what is cut off at 0
-pub within-maximum : (a b : Float) → Within (maximum a b) ↔ (Within a × Within b)
+pub within-maximum : (a b : Float) → NotAbove (maximum a b) ↔ (NotAbove a × NotAbove b)
 within-maximum a b = maximum-law tiny64 a b
 
-pub within-violation : (v lower upper : Float) → Within (positiveViolation v lower upper) ↔ (Within (lower ⊖ v) × Within (v ⊖ upper))
+pub within-violation : (v lower upper : Float) → NotAbove (positiveViolation v lower upper) ↔ (NotAbove (lower ⊖ v) × NotAbove (v ⊖ upper))
 unfolding positiveViolation
 within-violation v lower upper =
     let m = maximum-law tiny64 (maximum (lower ⊖ v) zero64) (maximum (v ⊖ upper) zero64) in
@@ -168,5 +168,5 @@ within-violation v lower upper =
     let u = maximum-law tiny64 (v ⊖ upper) zero64 in
     (λ h. (l .0 (m .0 h .0) .0, u .0 (m .0 h .1) .0), λ h. m .1 (l .1 (h .0, zero-within), u .1 (h .1, zero-within)))
 
-pub within-cut : (a : Float) → Within (maximum a zero64) ↔ Within a
+pub within-cut : (a : Float) → NotAbove (maximum a zero64) ↔ NotAbove a
 within-cut a = let m = maximum-law tiny64 a zero64 in (λ h. m .0 h .0, λ h. m .1 (h, zero-within))

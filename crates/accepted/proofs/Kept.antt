@@ -26,7 +26,7 @@ use Rattle.pi_model.specs.Flow.{flowAt, flowOf, flow}
 use Rattle.acopf.specs.Rows.{rated}
 use Rattle.acopf.proofs.Counts.{lower-columns, upper-columns}
 use Rattle.acopf.proofs.Right.{tables-clear, lower-finite, upper-finite, slope-finite, intercept-finite}
-use Rattle.accepted.specs.Accepted.{Sound, Kept, Accepted, AtMost, Within}
+use Rattle.accepted.specs.Accepted.{Sound, Kept, Accepted, AtMost, NotAbove}
 use Rattle.validate.specs.Check.{tiny64, checkFault, checked}
 use Rattle.derived.specs.Outputs.{va, pg, epigraph, withdrawn, pInjection, qInjection, ownObjective, flows, pFrom, qFrom, pTo, qTo, outputs}
 use Rattle.residuals.specs.Residuals.{pBalance, qBalance}
@@ -42,7 +42,7 @@ one-finite : isFinite one64 ≡ true
 unfolding ofBits isFinite
 one-finite = refl
 
-within-at-most : (v : Float) → Number v → Within v → AtMost v
+within-at-most : (v : Float) → Number v → NotAbove v → AtMost v
 within-at-most v n w = at-most tiny64 v tiny-number n w
 
 -- ---- balances
@@ -88,7 +88,7 @@ curve-number ws xs A g p l c f =
 
 -- ---- a rating: two numbers, the larger of which is within s_max
 
-rating-both : (h k s : Float) → Number h → Number k → isFinite s ≡ true → lt zero64 s ≡ true → Within (maximum (maximum h k ⊖ s) zero64) → AtMost (h ⊖ s) × AtMost (k ⊖ s)
+rating-both : (h k s : Float) → Number h → Number k → isFinite s ≡ true → lt zero64 s ≡ true → NotAbove (maximum (maximum h k ⊖ s) zero64) → AtMost (h ⊖ s) × AtMost (k ⊖ s)
 rating-both h k s nh nk fs above w =
     let m = maximum-either Number h k nh nk in
     let v = within-cut (maximum h k ⊖ s) .0 w in
@@ -184,7 +184,7 @@ module _ (ws : List ℕ) (xs x : List Float) (solver : Float) (lent : ℕ) (A : 
 
 -- ---- and back
 
-most-within : (v : Float) → AtMost v → Within v
+most-within : (v : Float) → AtMost v → NotAbove v
 most-within v h = most-not v tiny64 (rw h tt)
 
 module _ (ws : List ℕ) (xs x : List Float) (solver : Float) (lent : ℕ) where
@@ -196,7 +196,7 @@ module _ (ws : List ℕ) (xs x : List Float) (solver : Float) (lent : ℕ) where
     bounds = λ j l. within-violation _ _ _ .1 (most-within _ (K .lower j l), most-within _ (K .upper j l));
     reference = λ r l. most-within _ (K .reference r l);
     angle = λ b l on. within-violation _ _ _ .1 (most-within _ (K .angle-lower b l on), most-within _ (K .angle-upper b l on));
-    rating = λ b l on. within-cut _ .1 (maximum-either (λ v. Within (v ⊖ sMax ws xs b)) _ _ (most-within _ (K .rating-from b l on)) (most-within _ (K .rating-to b l on)));
+    rating = λ b l on. within-cut _ .1 (maximum-either (λ v. NotAbove (v ⊖ sMax ws xs b)) _ _ (most-within _ (K .rating-from b l on)) (most-within _ (K .rating-to b l on)));
     curve = λ g l c. within-cut _ .1 (most-within _ (K .curve g l c));
     objective = most-within _ (K .objective);
   }

@@ -23,13 +23,13 @@ use Rattle.derived.proofs.Outputs.{outputs-at}
 use Rattle.residuals.specs.Residuals.{pBalance, qBalance, activeBalance, reactiveBalance, residuals}
 use Rattle.validate.specs.Check.{tiny64, tolerances, solved, faultOutput, faultPoint, faultSwing, faultResidual, checkFault}
 use Rattle.validate.proofs.Order.{check-is}
-use Rattle.accepted.specs.Accepted.{Sound, Within}
+use Rattle.accepted.specs.Accepted.{Sound, NotAbove}
 use Rattle.accepted.proofs.Accepts.{derived-exactly, zero-within}
 use Rattle.accepted.proofs.Largest.{largest-law}
 use Rattle.accepted.proofs.Kept.{withdrawn-number}
 
 -- a number that is not finite is an infinity, and its absolute value is above the tolerance
-above-tiny : (v : Float) → Number v → isFinite v ≡ false → Within (absolute v) → ⊥
+above-tiny : (v : Float) → Number v → isFinite v ≡ false → NotAbove (absolute v) → ⊥
 unfolding isFinite absolute isNan lt ofBits
 above-tiny nan n f w = true≢false n
 above-tiny (inf s) n f w = true≢false w

@@ -66,23 +66,23 @@ pub record Kept (ws : List ℕ) (xs x : List Float) (solver : Float) : Type 0 wh
   pub objective : AtMost (absolute (solver ⊖ ownObjective ws xs x) ⊘ maximum (absolute (ownObjective ws xs x)) one64)
 
 -- not above the tolerance, as the check's maxima have it; a NaN is not above either, and Kept says that there is none
-abbrev pub Within : Float → Type 0
-Within x = lt tiny64 x ≡ false
+abbrev pub NotAbove : Float → Type 0
+NotAbove x = lt tiny64 x ≡ false
 
 pub record Accepted (ws : List ℕ) (xs x : List Float) (solver : Float) (lent : ℕ) : Type 0 where
   pub sound : Sound ws xs x solver lent
   -- every bus is balanced
-  pub active : (i : ℕ) → i < buses ws → Within (absolute (pBalance ws xs x (flows ws xs x) i))
-  pub reactive : (i : ℕ) → i < buses ws → Within (absolute (qBalance ws xs x (flows ws xs x) i))
+  pub active : (i : ℕ) → i < buses ws → NotAbove (absolute (pBalance ws xs x (flows ws xs x) i))
+  pub reactive : (i : ℕ) → i < buses ws → NotAbove (absolute (qBalance ws xs x (flows ws xs x) i))
   -- every column is in its bounds, every reference angle is 0, every active angle bound and every rating is kept
   pub bounds : (j : ℕ) → j < columns ws
-      → Within (positiveViolation (getD x j nan) (getD (columnLower ws xs) j nan) (getD (columnUpper ws xs) j nan))
-  pub reference : (r : ℕ) → r < references ws → Within (absolute (va ws x (referred ws r)))
+      → NotAbove (positiveViolation (getD x j nan) (getD (columnLower ws xs) j nan) (getD (columnUpper ws xs) j nan))
+  pub reference : (r : ℕ) → r < references ws → NotAbove (absolute (va ws x (referred ws r)))
   pub angle : (b : ℕ) → b < branches ws → angled ws b ≡ true
-      → Within (positiveViolation (va ws x (from ws b) ⊖ va ws x (to ws b)) (angleMin ws xs b) (angleMax ws xs b))
+      → NotAbove (positiveViolation (va ws x (from ws b) ⊖ va ws x (to ws b)) (angleMin ws xs b) (angleMax ws xs b))
   pub rating : (b : ℕ) → b < branches ws → rated ws xs b ≡ true
-      → Within (maximum (maximum (hypotenuse (pFrom (flows ws xs x) b) (qFrom (flows ws xs x) b))
+      → NotAbove (maximum (maximum (hypotenuse (pFrom (flows ws xs x) b) (qFrom (flows ws xs x) b))
       (hypotenuse (pTo (flows ws xs x) b) (qTo (flows ws xs x) b)) ⊖ sMax ws xs b) zero64)
   -- every epigraph column reaches its curve, and the solver's objective is the point's
-  pub curve : (g : ℕ) → g < generators ws → curved ws g ≡ true → Within (maximum (curveValue ws xs g (pg ws x g) ⊖ epigraph ws x g) zero64)
-  pub objective : Within (absolute (solver ⊖ ownObjective ws xs x) ⊘ maximum (absolute (ownObjective ws xs x)) one64)
+  pub curve : (g : ℕ) → g < generators ws → curved ws g ≡ true → NotAbove (maximum (curveValue ws xs g (pg ws x g) ⊖ epigraph ws x g) zero64)
+  pub objective : NotAbove (absolute (solver ⊖ ownObjective ws xs x) ⊘ maximum (absolute (ownObjective ws xs x)) one64)

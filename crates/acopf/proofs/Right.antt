@@ -25,7 +25,7 @@ use Rattle.piecewise_cost.specs.Curve.{slope, intercept}
 use Rattle.acopf.specs.Factor.{constants64, faultFactor, networkFault}
 use Rattle.acopf.specs.Model.{objective, objectiveConstant, model}
 use Rattle.acopf.specs.Parts.{sharedParts}
-use Rattle.acopf.specs.Rows.{Row, pBalance, qBalance, referenceRow, angleRow, thermalRows, segmentRow, segmentRows, rows}
+use Rattle.acopf.specs.Rows.{Row, pBalanceRow, qBalanceRow, referenceRow, angleRow, thermalRows, segmentRow, segmentRows, rows}
 use Rattle.acopf.proofs.Finite.{non-finite-clear, zero-finite, huge-finite, low-finite, bound-finite}
 use Rattle.acopf.proofs.Order.{network-is}
 
@@ -102,8 +102,8 @@ module _ (ws : List ℕ) (xs : List Float) (accepted : networkFault ws xs ≡ cl
       let all = finite-patterns 0 (modelConstants (model ws xs)) (constants-finite .0) in
       let later = all-right FiniteAt 0 (constantsOf (terms (sharedParts ws xs))) _ all in
       let of-rows = row-patterns _ 0 (rows ws xs) (all-left FiniteAt _ (constantsOf (terms (map (λ r. r .expression) (rows ws xs)))) (constants (objective ws xs)) later) in
-      let p = table (buses ws) (pBalance ws xs) in
-      let q = table (buses ws) (qBalance ws xs) in
+      let p = table (buses ws) (pBalanceRow ws xs) in
+      let q = table (buses ws) (qBalanceRow ws xs) in
       let r = table (references ws) (referenceRow ws xs) in
       let a = each (branches ws) (λ b. keep (angled ws b) (angleRow ws xs b)) in
       let t = each (branches ws) (thermalRows ws xs) in

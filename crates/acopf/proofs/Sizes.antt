@@ -23,9 +23,9 @@ use Rattle.acopf.proofs.Counts.{count-constants, length-shared}
 use Rattle.acopf.specs.Build.{scaled, square, sum, terms}
 use Rattle.acopf.specs.Factor.{constants64}
 use Rattle.acopf.specs.Model.{costTerm, objective, model, fileWords}
-use Rattle.acopf.specs.Parts.{branchPart, branchParts, sharedParts, pFrom, qFrom, pTo, qTo}
+use Rattle.acopf.specs.Parts.{branchPart, branchParts, sharedParts, pFromPart, qFromPart, pToPart, qToPart}
 use Rattle.acopf.specs.Tallies.{segmentsBefore}
-use Rattle.acopf.specs.Rows.{Row, balanceRow, pBalance, qBalance, referenceRow, angleRow, rated, thermalRow, thermalRows, segmentRow, segmentRows, rows}
+use Rattle.acopf.specs.Rows.{Row, balanceRow, pBalanceRow, qBalanceRow, referenceRow, angleRow, rated, thermalRow, thermalRows, segmentRow, segmentRows, rows}
 
 -- ---- an expression's size: c a constant, o a column or a shared part, v an operator
 
@@ -102,7 +102,7 @@ module _ (ws : List ℕ) (xs : List Float) where
   -- all rows but the segments'
   abbrev pub firstRows : List Row
   firstRows =
-      table (buses ws) (pBalance ws xs) ++ table (buses ws) (qBalance ws xs) ++ table (references ws) (referenceRow ws xs)
+      table (buses ws) (pBalanceRow ws xs) ++ table (buses ws) (qBalanceRow ws xs) ++ table (references ws) (referenceRow ws xs)
       ++ each (branches ws) (λ b. keep (angled ws b) (angleRow ws xs b)) ++ each (branches ws) (thermalRows ws xs)
 
   -- ---- weights of rows
@@ -122,7 +122,7 @@ module _ (ws : List ℕ) (xs : List Float) where
   unfolding thermalRows
   thermals-weight w c h =
       weight-each w (branches ws) (thermalRows ws xs)
-      ∙ total-same (branches ws) _ (λ b. 2 * (c * bit (rated ws xs b))) (λ b l. weight-append w (keep (rated ws xs b) (thermalRow ws xs b (pFrom ws b) (qFrom ws b))) (keep (rated ws xs b) (thermalRow ws xs b (pTo ws b) (qTo ws b)))
+      ∙ total-same (branches ws) _ (λ b. 2 * (c * bit (rated ws xs b))) (λ b l. weight-append w (keep (rated ws xs b) (thermalRow ws xs b (pFromPart ws b) (qFromPart ws b))) (keep (rated ws xs b) (thermalRow ws xs b (pToPart ws b) (qToPart ws b)))
       ∙ omega (arith, one b (buses ws + 8 * b + 4) (buses ws + 8 * b + 5), one b (buses ws + 8 * b + 6) (buses ws + 8 * b + 7)))
       ∙ total-times 2 (branches ws) (λ b. c * bit (rated ws xs b))
       ∙ ap (λ x. 2 * x) (total-times c (branches ws) (λ b. bit (rated ws xs b)) ∙ ap (λ x. c * x) (total-tally (branches ws) (rated ws xs)))
@@ -131,12 +131,12 @@ module _ (ws : List ℕ) (xs : List Float) where
       one b p q = weight-keep w (rated ws xs b) (thermalRow ws xs b (shared p) (shared q)) ∙ ap (λ x. x * bit (rated ws xs b)) (h b p q)
 
   six : (w : Row → ℕ) → weight w (rows ws xs)
-      ≡ total (buses ws) (λ i. w (pBalance ws xs i)) + total (buses ws) (λ i. w (qBalance ws xs i)) + total (references ws) (λ j. w (referenceRow ws xs j))
+      ≡ total (buses ws) (λ i. w (pBalanceRow ws xs i)) + total (buses ws) (λ i. w (qBalanceRow ws xs i)) + total (references ws) (λ j. w (referenceRow ws xs j))
       + weight w (each (branches ws) (λ b. keep (angled ws b) (angleRow ws xs b))) + weight w (each (branches ws) (thermalRows ws xs)) + weight w (each (generators ws) (segmentRows ws xs))
   unfolding rows
   six w =
-      let p = table (buses ws) (pBalance ws xs) in
-      let q = table (buses ws) (qBalance ws xs) in
+      let p = table (buses ws) (pBalanceRow ws xs) in
+      let q = table (buses ws) (qBalanceRow ws xs) in
       let f = table (references ws) (referenceRow ws xs) in
       let a = each (branches ws) (λ b. keep (angled ws b) (angleRow ws xs b)) in
       let t = each (branches ws) (thermalRows ws xs) in
@@ -148,8 +148,8 @@ module _ (ws : List ℕ) (xs : List Float) where
         weight-append w (p ++ q ++ f) a,
         weight-append w (p ++ q) f,
         weight-append w p q,
-        weight-table w (buses ws) (pBalance ws xs),
-        weight-table w (buses ws) (qBalance ws xs),
+        weight-table w (buses ws) (pBalanceRow ws xs),
+        weight-table w (buses ws) (qBalanceRow ws xs),
         weight-table w (references ws) (referenceRow ws xs),
       )
 
@@ -251,7 +251,7 @@ module _ (ws : List ℕ) (xs : List Float) (c o v : ℕ) where
     rows-size : weight row-size (rows ws xs)
         ≡ 2 * ((v + c + s) * buses ws + (o * generators ws + (s * branches ws + s * branches ws))) + o * references ws
         + (v + (o + (o + 0))) * spreads ws + 2 * ((v + c + v + (v + o) + (v + o)) * ratings ws xs) + (v + o + v + s + c) * segmentsBefore ws (generators ws)
-    unfolding pBalance qBalance measure
+    unfolding pBalanceRow qBalanceRow measure
     rows-size =
         six ws xs row-size
         ∙ omega (

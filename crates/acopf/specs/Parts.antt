@@ -29,17 +29,17 @@ module _ (ws : List ℕ) where
   abbrev pub wi : ℕ → Expr
   wi b = branchPart b 3
 
-  abbrev pub pFrom : ℕ → Expr
-  pFrom b = branchPart b 4
+  abbrev pub pFromPart : ℕ → Expr
+  pFromPart b = branchPart b 4
 
-  abbrev pub qFrom : ℕ → Expr
-  qFrom b = branchPart b 5
+  abbrev pub qFromPart : ℕ → Expr
+  qFromPart b = branchPart b 5
 
-  abbrev pub pTo : ℕ → Expr
-  pTo b = branchPart b 6
+  abbrev pub pToPart : ℕ → Expr
+  pToPart b = branchPart b 6
 
-  abbrev pub qTo : ℕ → Expr
-  qTo b = branchPart b 7
+  abbrev pub qToPart : ℕ → Expr
+  qToPart b = branchPart b 7
 
   -- from angle minus to angle
   abbrev pub angleDifference : ℕ → Expr

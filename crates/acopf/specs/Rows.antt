@@ -13,7 +13,7 @@ use Rattle.network.specs.Network.{buses, generators, branches, references, busO
 use Rattle.network.specs.Network.{vaColumn, pgColumn, qgColumn, epigraphColumn, pD, qD, gS, bS, angleMin, angleMax, sMax}
 use Rattle.piecewise_cost.specs.Curve.{slope, intercept}
 use Rattle.acopf.specs.Build.{literal, add, subtract, square, scaled, sum}
-use Rattle.acopf.specs.Parts.{vmSquared, pFrom, qFrom, pTo, qTo, angleDifference}
+use Rattle.acopf.specs.Parts.{vmSquared, pFromPart, qFromPart, pToPart, qToPart, angleDifference}
 
 pub record Row : Type 0 where
   pub expression : Expr
@@ -41,11 +41,11 @@ module _ (ws : List ℕ) (xs : List Float) where
       ++ each (branches ws) (λ b. keep (eqb (from ws b) i) (scaled (neg one64) (atFrom b))
       ++ keep (eqb (to ws b) i) (scaled (neg one64) (atTo b)))))
 
-  unfoldable pub pBalance : ℕ → Row
-  pBalance i = balanceRow i (neg (pD ws xs i)) (neg (gS ws xs i)) (pgColumn ws) (pFrom ws) (pTo ws)
+  unfoldable pub pBalanceRow : ℕ → Row
+  pBalanceRow i = balanceRow i (neg (pD ws xs i)) (neg (gS ws xs i)) (pgColumn ws) (pFromPart ws) (pToPart ws)
 
-  unfoldable pub qBalance : ℕ → Row
-  qBalance i = balanceRow i (neg (qD ws xs i)) (bS ws xs i) (qgColumn ws) (qFrom ws) (qTo ws)
+  unfoldable pub qBalanceRow : ℕ → Row
+  qBalanceRow i = balanceRow i (neg (qD ws xs i)) (bS ws xs i) (qgColumn ws) (qFromPart ws) (qToPart ws)
 
   abbrev pub referenceRow : ℕ → Row
   referenceRow r = balanced (column (vaColumn ws (referred ws r)))
@@ -58,7 +58,7 @@ module _ (ws : List ℕ) (xs : List Float) where
   thermalRow b p q = margin (subtract (literal (sMax ws xs b ⊗ sMax ws xs b)) (add (square p) (square q)))
 
   unfoldable pub thermalRows : ℕ → List Row
-  thermalRows b = keep (rated ws xs b) (thermalRow b (pFrom ws b) (qFrom ws b)) ++ keep (rated ws xs b) (thermalRow b (pTo ws b) (qTo ws b))
+  thermalRows b = keep (rated ws xs b) (thermalRow b (pFromPart ws b) (qFromPart ws b)) ++ keep (rated ws xs b) (thermalRow b (pToPart ws b) (qToPart ws b))
 
   -- the epigraph column less slope times pg plus intercept
   unfoldable pub segmentRow : ℕ → ℕ → Row
@@ -73,7 +73,7 @@ module _ (ws : List ℕ) (xs : List Float) where
   -- then curve segments."
   unfoldable pub rows : List Row
   rows =
-      table (buses ws) pBalance ++ table (buses ws) qBalance ++ table (references ws) referenceRow
+      table (buses ws) pBalanceRow ++ table (buses ws) qBalanceRow ++ table (references ws) referenceRow
       ++ each (branches ws) (λ b. keep (angled ws b) (angleRow b)) ++ each (branches ws) thermalRows ++ each (generators ws) segmentRows
 
   -- the bounds, row by row

@@ -18,7 +18,7 @@ use Rattle.base.proofs.Loops.{getD-table}
 use Rattle.float.specs.Number.{_⊕_, _⊖_}
 use Rattle.network.specs.Network.{buses, generators, branches, busOf, from, to}
 use Rattle.pi_model.specs.Flow.{flow}
-use Rattle.derived.specs.contracts.Agree.{At, PerBus, Kept}
+use Rattle.derived.specs.contracts.Agree.{At, PerBus, Untouched}
 use Rattle.derived.specs.Outputs.{flows, injected, withdrawn, pInjection, qInjection, pFrom, qFrom, pTo, qTo, outputs}
 use Rattle.derived.specs.contracts.Scratch.{FlowsAre}
 
@@ -49,11 +49,11 @@ module _ (place : ℕ → ℕ) (f : ℕ → Float) (l : List Float) where
           rw s (getD-set-same l (place at) (op (getD l (place at) nan) v) nan h ∙ ap (λ z. op z v) (a at r))
       go false e = getD-set-other l (place at) (place i) _ nan (λ z. eqb-false at i e (sym (same i q z))) ∙ a i q
 
-kept-set : (from : ℕ) (before l : List Float) (j : ℕ) (v : Float) → j < from → Kept from before l → Kept from before (set l j v)
+kept-set : (from : ℕ) (before l : List Float) (j : ℕ) (v : Float) → j < from → Untouched from before l → Untouched from before (set l j v)
 kept-set from before l j v h k i q = getD-set-other l j i v nan (λ z. omega arith) ∙ k i q
 
 -- bus i's two numbers
-pub kept-two : (n : ℕ) (before l : List Float) (i : ℕ) (u v : Float) → i < n → Kept (2 * n) before l → Kept (2 * n) before (set (set l i u) (n + i) v)
+pub kept-two : (n : ℕ) (before l : List Float) (i : ℕ) (u v : Float) → i < n → Untouched (2 * n) before l → Untouched (2 * n) before (set (set l i u) (n + i) v)
 kept-two n before l i u v h k =
     kept-set (2 * n) before (set l i u) (n + i) v (omega arith) (kept-set (2 * n) before l i u (omega arith) k)
 
@@ -199,7 +199,7 @@ flows-next fs n m b l v h k e F =
     }
 
 -- flows are behind the first 2n numbers
-pub flows-kept : {fs : List (List Float)} {n m : ℕ} {before after : List Float} → Kept (2 * n) before after → FlowsAre fs n m m before → FlowsAre fs n m m after
+pub flows-kept : {fs : List (List Float)} {n m : ℕ} {before after : List Float} → Untouched (2 * n) before after → FlowsAre fs n m m before → FlowsAre fs n m m after
 flows-kept {fs} {n} {m} K F =
     record {
       p-from = λ b q. K (2 * n + b) (omega arith) ∙ F .p-from b q;

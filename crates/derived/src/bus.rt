@@ -14,7 +14,7 @@ ghost use lib.ListN.{length};
 ghost use Rattle.network.specs.Limits.{mostBuses};
 ghost use Rattle.network.specs.Network.{buses};
 ghost use Rattle.network.specs.Layout.{Laid};
-ghost use Rattle.derived.specs.contracts.Agree.{Ready, PerBus, Kept};
+ghost use Rattle.derived.specs.contracts.Agree.{Ready, PerBus, Untouched};
 ghost use Rattle.derived.specs.Outputs.{pg, qg, injected, withdrawn, pFrom, qFrom, pTo, qTo};
 ghost use Rattle.derived.specs.contracts.Scratch.{VoltagesAre, pDemand, qDemand, InjectionsAre, FlowsAre};
 
@@ -37,7 +37,7 @@ pub(crate) fn voltages(point: &[f64], layout: Layout, list: &mut [f64])
 fn demands(words: &[u32], numbers: &[f64], point: &[f64], layout: Layout, list: &mut [f64])
     requires { ⌜ (Ready (now words) (now numbers) (now point) layout) × (2 * layout .buses ≤ length (now list)) ⌝ }
     ensures { λ r. ⌜ (let ws = now (words .entry) in let xs = now (numbers .entry) in let x = now (point .entry) in let n = layout .buses in
-        PerBus n n (pDemand ws xs x) (qDemand ws xs x) (now (list .exit)) × Kept (2 * n) (now (list .entry)) (now (list .exit))) ⌝ }
+        PerBus n n (pDemand ws xs x) (qDemand ws xs x) (now (list .exit)) × Untouched (2 * n) (now (list .entry)) (now (list .exit))) ⌝ }
 {
     let n = layout.buses;
     let mut i = 0usize;
@@ -56,7 +56,7 @@ fn generation(words: &[u32], numbers: &[f64], point: &[f64], layout: Layout, lis
     ensures { λ r. ⌜ (let ws = now (words .entry) in let x = now (point .entry) in let n = layout .buses in
         ((p q : ℕ → Float) → PerBus n n p q (now (list .entry))
         → PerBus n n (λ i. injected ws i (pg ws x) (p i)) (λ i. injected ws i (qg ws x) (q i)) (now (list .exit)))
-        × Kept (2 * n) (now (list .entry)) (now (list .exit))) ⌝ }
+        × Untouched (2 * n) (now (list .entry)) (now (list .exit))) ⌝ }
 {
     let n = layout.buses;
     let k = layout.generators;
@@ -79,7 +79,7 @@ pub(crate) fn injections(
 )
     requires { ⌜ (Ready (now words) (now numbers) (now point) layout) × (2 * layout .buses ≤ length (now list)) ⌝ }
     ensures { λ r. ⌜ (InjectionsAre (now (words .entry)) (now (numbers .entry)) (now (point .entry)) layout (now (list .exit)))
-        × (Kept (2 * layout .buses) (now (list .entry)) (now (list .exit))) ⌝ }
+        × (Untouched (2 * layout .buses) (now (list .entry)) (now (list .exit))) ⌝ }
 {
     demands(words, numbers, point, layout, list);
     generation(words, numbers, point, layout, list);

@@ -17,7 +17,7 @@ use Rattle.network.specs.Network.{buses, generators, branches, busOf, from, to,
 use Rattle.acopf.specs.Build.{subtract, square, scaled, terms}
 use Rattle.acopf.specs.Model.{costTerm}
 use Rattle.acopf.specs.Parts.{branchParts}
-use Rattle.acopf.specs.Rows.{balanceRow, pBalance, qBalance}
+use Rattle.acopf.specs.Rows.{balanceRow, pBalanceRow, qBalanceRow}
 use Rattle.writer.specs.contracts.Tokens.{Token, fixed, numbered, tokensOf, listTokens, partTokens}
 use Rattle.writer.proofs.Tokens.{list-append, list-each, list-terms}
 use Rattle.parts.specs.contracts.Parts.{sharedTokens}
@@ -90,7 +90,7 @@ module _ (ws : List ℕ) (xs : List Float) where
       )
 
   balance-most : (reactive : Bool) (i : ℕ) → length (balanceOf ws xs reactive i) ≤ 6 + generators ws + 6 * branches ws
-  unfolding balanceOf pBalance qBalance
+  unfolding balanceOf pBalanceRow qBalanceRow
   balance-most true i =
       balance-row i (neg (qD ws xs i)) (bS ws xs i) (qgColumn ws) (λ b. buses ws + 8 * b + 5) (λ b. buses ws + 8 * b + 7)
   balance-most false i =

@@ -20,8 +20,8 @@ use Rattle.network.specs.Layout.{Laid, layoutOf}
 use Rattle.acopf.specs.Build.{terms, sum}
 use Rattle.acopf.specs.Factor.{constants64}
 use Rattle.acopf.specs.Model.{costTerm, objective, model, fileWords}
-use Rattle.acopf.specs.Parts.{branchParts, sharedParts, pFrom, qFrom, pTo, qTo}
-use Rattle.acopf.specs.Rows.{Row, rows, pBalance, qBalance, referenceRow, angleRow, rated, thermalRow, thermalRows, segmentRow, segmentRows}
+use Rattle.acopf.specs.Parts.{branchParts, sharedParts, pFromPart, qFromPart, pToPart, qToPart}
+use Rattle.acopf.specs.Rows.{Row, rows, pBalanceRow, qBalanceRow, referenceRow, angleRow, rated, thermalRow, thermalRows, segmentRow, segmentRows}
 use Rattle.acopf.proofs.Counts.{count-terms}
 use Rattle.writer.specs.declared.writer.Writer.{Writer}
 use Rattle.base.specs.contracts.Section.{Wrote}
@@ -63,7 +63,7 @@ keep-rows false r s = refl
 
 thermal-are : (ws : List ℕ) (xs : List Float) (b : ℕ) → rowParts (thermalRows ws xs b) ≡ thermalTokens ws xs (buses ws) b
 unfolding thermalRows
-thermal-are ws xs b = keep-rows (rated ws xs b) (thermalRow ws xs b (pFrom ws b) (qFrom ws b)) (thermalRow ws xs b (pTo ws b) (qTo ws b))
+thermal-are ws xs b = keep-rows (rated ws xs b) (thermalRow ws xs b (pFromPart ws b) (qFromPart ws b)) (thermalRow ws xs b (pToPart ws b) (qToPart ws b))
 
 some-rows : (t : Bool) (n : ℕ) (f : ℕ → Row) → rowParts (cond t (table n f) []) ≡ each (cond t n 0) (λ i. rowParts (f i ∷ []))
 some-rows true n f = rows-table n f
@@ -73,11 +73,11 @@ curves-are : (ws : List ℕ) (xs : List Float) (g : ℕ) → rowParts (segmentRo
 unfolding segmentRows segmentRow curveTokens
 curves-are ws xs g = some-rows (curved ws g) (segments ws g) (segmentRow ws xs g)
 
-p-rows-are : (ws : List ℕ) (xs : List Float) → each (buses ws) (λ i. rowParts (pBalance ws xs i ∷ [])) ≡ each (buses ws) (balanceOf ws xs false)
+p-rows-are : (ws : List ℕ) (xs : List Float) → each (buses ws) (λ i. rowParts (pBalanceRow ws xs i ∷ [])) ≡ each (buses ws) (balanceOf ws xs false)
 unfolding balanceOf
 p-rows-are ws xs = refl
 
-q-rows-are : (ws : List ℕ) (xs : List Float) → each (buses ws) (λ i. rowParts (qBalance ws xs i ∷ [])) ≡ each (buses ws) (balanceOf ws xs true)
+q-rows-are : (ws : List ℕ) (xs : List Float) → each (buses ws) (λ i. rowParts (qBalanceRow ws xs i ∷ [])) ≡ each (buses ws) (balanceOf ws xs true)
 unfolding balanceOf
 q-rows-are ws xs = refl
 
@@ -145,8 +145,8 @@ module _ (es fs : List Expr) (o : Expr) where
 rows-are : (ws : List ℕ) (xs : List Float) → rowParts (rows ws xs) ++ (fixed (word 12 0) ∷ tokens (objective ws xs) ++ (fixed (word 13 0) ∷ [])) ≡ rowTokens ws xs (layoutOf ws)
 unfolding rows rowTokens busRows balancesOf branchRows
 rows-are ws xs =
-    let f = table (buses ws) (pBalance ws xs) in
-    let g = table (buses ws) (qBalance ws xs) in
+    let f = table (buses ws) (pBalanceRow ws xs) in
+    let g = table (buses ws) (qBalanceRow ws xs) in
     let h = table (references ws) (referenceRow ws xs) in
     let i = each (branches ws) (λ b. keep (angled ws b) (angleRow ws xs b)) in
     let j = each (branches ws) (thermalRows ws xs) in
@@ -164,8 +164,8 @@ rows-are ws xs =
       thermals,
       curves,
       objective-is ws xs,
-      rows-table (buses ws) (pBalance ws xs),
-      rows-table (buses ws) (qBalance ws xs),
+      rows-table (buses ws) (pBalanceRow ws xs),
+      rows-table (buses ws) (qBalanceRow ws xs),
       rows-table (references ws) (referenceRow ws xs),
       p-rows-are ws xs,
       q-rows-are ws xs,

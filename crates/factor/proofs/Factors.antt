@@ -30,7 +30,7 @@ use Rattle.acopf.specs.Factor.{firstNonFinite, constants64, faultFactor}
 use Rattle.pi_model.specs.Flow.{coefficientsOf, coefficients}
 use Rattle.acopf.specs.Model.{objective, objectiveConstant, model}
 use Rattle.acopf.specs.Tallies.{rowSegments, segmentsBefore}
-use Rattle.factor.specs.contracts.NonFinite.{nonFinite, coefficientsFault, curveFault, branchesFactor, curvesFactor, epigraphsFactor}
+use Rattle.factor.specs.contracts.NonFinite.{nonFinite, coefficientsFault, segmentsFault, branchesFactor, curvesFactor, epigraphsFactor}
 use Rattle.acopf.specs.Parts.{branchParts, sharedParts}
 use Rattle.acopf.specs.Rows.{Row, segmentRow, segmentRows, rows}
 use Rattle.factor.proofs.Fine.{finiteBits, FiniteBits, FineRow, rows-fine, objective-fine}
@@ -124,8 +124,8 @@ module _ (ws : List ℕ) (xs : List Float) where
       ap (firstBits k) (segment-constants g s) ∙ failing-pair 11 finiteBits (omega arith) k _ _
       ∙ ap₂ (λ a b. orElse (unless a (fault 11 k)) (unless b (fault 11 (k + 1)))) (back-finite _ (div-fits binary64 _ _)) (back-finite _ (sub-fits binary64 _ _))
 
-  curve-are : (g k : ℕ) → firstBits k (gather rowConstants (segmentRows ws xs g)) ≡ curveFault xs (curveAt ws g) (rowSegments ws g) k
-  unfolding curveFault
+  curve-are : (g k : ℕ) → firstBits k (gather rowConstants (segmentRows ws xs g)) ≡ segmentsFault xs (curveAt ws g) (rowSegments ws g) k
+  unfolding segmentsFault
   curve-are g k =
       ap (firstBits k) (curve-constants g)
       ∙ failing-turns 11 finiteBits 2 k (rowSegments ws g) (λ s. rowConstants (segmentRow ws xs g s)) (λ s. ap length (segment-constants g s))
@@ -143,7 +143,7 @@ module _ (ws : List ℕ) (xs : List Float) where
   segments-are k =
       ap (firstBits k) (gather-each rowConstants (generators ws) (segmentRows ws xs))
       ∙ failing-each 11 finiteBits k (generators ws) (λ g. gather rowConstants (segmentRows ws xs g))
-      ∙ first-same (generators ws) _ _ (λ g l. curve-are g _ ∙ ap (λ m. curveFault xs (curveAt ws g) (rowSegments ws g) (k + m)) (segments-length g))
+      ∙ first-same (generators ws) _ _ (λ g l. curve-are g _ ∙ ap (λ m. segmentsFault xs (curveAt ws g) (rowSegments ws g) (k + m)) (segments-length g))
 
   -- ---- starts
 

@@ -20,7 +20,7 @@ use Rattle.tables.proofs.Right.{square-right}
 use Rattle.tables.proofs.Required.{p-d-finite, q-d-finite, g-s-finite, b-s-finite, cost-q-finite, cost-c-finite}
 use Rattle.acopf.specs.Build.{literal, scaled, square, sum, terms}
 use Rattle.acopf.specs.Model.{costTerm, objective}
-use Rattle.acopf.specs.Rows.{Row, balanceRow, pBalance, qBalance, rated, thermalRows}
+use Rattle.acopf.specs.Rows.{Row, balanceRow, pBalanceRow, qBalanceRow, rated, thermalRows}
 use Rattle.acopf.proofs.Sizes.{firstRows}
 use Rattle.factor.proofs.Numbers.{neg-finite, back-finite, half-finite}
 
@@ -129,7 +129,7 @@ module _ (ws : List ℕ) (xs : List Float) (right : Clear (faultTables ws xs)) (
   }
 
   pub rows-fine : Every FineRow 0 (firstRows ws xs)
-  unfolding pBalance qBalance thermalRows
+  unfolding pBalanceRow qBalanceRow thermalRows
   rows-fine =
       every-append (every-append (every-append (every-append
       (every-table (buses ws) _ (λ i l. balance-fine i _ _ _ (λ b. buses ws + 8 * b + 4) (λ b. buses ws + 8 * b + 6) (kept-neg (given _ (p-d-finite ws xs right i l))) (kept-neg (given _ (g-s-finite ws xs right i l)))))

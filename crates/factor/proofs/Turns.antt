@@ -22,7 +22,7 @@ use Rattle.piecewise_cost.specs.Curve.{evaluate}
 use Rattle.pi_model.specs.Flow.{coefficientsOf, coefficients}
 use Rattle.acopf.specs.Tallies.{rowSegments, segmentsBefore}
 use Rattle.acopf.proofs.Tallied.{segments-next, epigraphs-next}
-use Rattle.factor.specs.contracts.NonFinite.{coefficientsFault, curveFault}
+use Rattle.factor.specs.contracts.NonFinite.{coefficientsFault, segmentsFault}
 
 -- an epigraph column's start, as refusal 11 looks at it
 abbrev pub epigraphFactor : List ℕ → List Float → ℕ → ℕ → Fault
@@ -30,10 +30,10 @@ epigraphFactor ws xs start g = unless (not (curved ws g) || isFinite (epigraphSt
 
 -- a curve's slopes and intercepts, as refusal 11 looks at them
 abbrev pub curveFactor : List ℕ → List Float → ℕ → ℕ → Fault
-curveFactor ws xs start g = curveFault xs (curveAt ws g) (rowSegments ws g) (start + 2 * segmentsBefore ws g)
+curveFactor ws xs start g = segmentsFault xs (curveAt ws g) (rowSegments ws g) (start + 2 * segmentsBefore ws g)
 
 pub curve-proper : (ws : List ℕ) (xs : List Float) (start g : ℕ) → Proper (curveFactor ws xs start g)
-unfolding curveFault
+unfolding segmentsFault
 curve-proper ws xs start g = first-proper _ _ (λ s. or-proper _ _ (unless-proper _ FACTOR _ (omega arith)))
 
 pub coefficients-proper : (cs : List Float) (place : ℕ) → Proper (coefficientsFault cs place)
@@ -44,7 +44,7 @@ coefficients-proper cs place = first-proper _ _ (λ c. unless-proper _ FACTOR _ 
 
 module _ {ws : List ℕ} {xs : List Float} {l : Layout} where
   pub curve-read : (start : ℕ) {g count place : ℕ} {p : Generator} → GeneratorRead ws xs l g p → count ≡ cond (p .curved) (p .points - 1) 0
-      → place ≡ start + 2 * segmentsBefore ws g → curveFault xs (p .curve) count place ≡ curveFactor ws xs start g
+      → place ≡ start + 2 * segmentsBefore ws g → segmentsFault xs (p .curve) count place ≡ curveFactor ws xs start g
   curve-read start G c h = rw (c, h, G .is)
 
   pub place-read : (start : ℕ) {g count place : ℕ} {p : Generator} → GeneratorRead ws xs l g p → count ≡ cond (p .curved) (p .points - 1) 0

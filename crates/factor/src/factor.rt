@@ -29,7 +29,7 @@ ghost use Rattle.piecewise_cost.specs.Curve.{slope, intercept};
 ghost use Rattle.acopf.specs.Factor.{faultFactor};
 ghost use Rattle.acopf.specs.Model.{objectiveConstant};
 ghost use Rattle.acopf.specs.Tallies.{Tallied};
-ghost use Rattle.factor.specs.contracts.NonFinite.{nonFinite, coefficientsFault, curveFault};
+ghost use Rattle.factor.specs.contracts.NonFinite.{nonFinite, coefficientsFault, segmentsFault};
 ghost use Rattle.factor.specs.contracts.NonFinite.{branchesFactor, curvesFactor, epigraphsFactor, curvesOn};
 
 // A branch's coefficients, of which the first is the constant `place`.
@@ -89,9 +89,9 @@ fn segment_fault(numbers: &[f64], at: usize, segment: usize, place: usize) -> Fa
 }
 
 // A curve's first `count` segments.
-fn curve_fault(numbers: &[f64], at: usize, count: usize, place: usize) -> Fault
+fn segments_fault(numbers: &[f64], at: usize, count: usize, place: usize) -> Fault
     requires { ⌜ ((s : ℕ) → s < count → at + 2 * s + 4 ≤ length (now numbers)) × (count ≤ 31) × (place ≤ 0x8000) ⌝ }
-    ensures { λ r. ⌜ r ≡ curveFault (now (numbers .entry)) at count place ⌝ }
+    ensures { λ r. ⌜ r ≡ segmentsFault (now (numbers .entry)) at count place ⌝ }
 {
     let mut s = 0usize;
     while s < count {
@@ -114,7 +114,7 @@ fn curves_factor(words: &[u32], numbers: &[f64], layout: Layout, start: usize) -
     while cursor.index < layout.generators {
         let generator = generator_of(words, numbers, layout, cursor);
         let count = row_segments(generator.curved, generator.points);
-        let f = curve_fault(numbers, generator.curve, count, place);
+        let f = segments_fault(numbers, generator.curve, count, place);
         if f.number != 0 {
             return f;
         }

@@ -21,7 +21,7 @@ use Rattle.piecewise_cost.specs.Curve.{slope, intercept}
 use Rattle.pi_model.specs.Flow.{coefficientsOf}
 use Rattle.acopf.specs.Build.{literal, scaled, square, sum, terms}
 use Rattle.acopf.specs.Parts.{branchParts, sharedParts}
-use Rattle.acopf.specs.Rows.{balanceRow, pBalance, qBalance, rated, thermalRows, segmentRow, segmentRows, rows}
+use Rattle.acopf.specs.Rows.{balanceRow, pBalanceRow, qBalanceRow, rated, thermalRows, segmentRow, segmentRows, rows}
 use Rattle.acopf.specs.Model.{costTerm, objective, model}
 use Rattle.acopf.specs.Factor.{constants64, networkFault}
 use Rattle.acopf.proofs.Right.{constants-finite}
@@ -121,7 +121,7 @@ module _ (ws : List ℕ) (xs : List Float) (F : Doubles xs) where
           (every-keep (eqb (to ws b) i) _ (λ e. patterned-scaled (neg one64) minus-one (patterned-shared (at b))))))))
 
   rows-patterned : Every (λ i r. Patterned (r .expression)) 0 (rows ws xs)
-  unfolding rows pBalance qBalance thermalRows segmentRows segmentRow slope intercept
+  unfolding rows pBalanceRow qBalanceRow thermalRows segmentRows segmentRow slope intercept
   rows-patterned =
       every-append (every-append (every-append (every-append (every-append
       (every-table (buses ws) _ (λ i h. balance-patterned i _ _ _ (λ b. buses ws + 8 * b + 4) (λ b. buses ws + 8 * b + 6) (neg-fits binary64 _ (F _)) (neg-fits binary64 _ (F _))))

@@ -16,8 +16,8 @@ use Rattle.network.specs.Network.{buses, generators, branches, references, cost
 use Rattle.network.proofs.Good.{Good}
 use Rattle.piecewise_cost.specs.Curve.{slope}
 use Rattle.acopf.specs.Build.{literal, scaled, square, sum}
-use Rattle.acopf.specs.Parts.{vmSquared, branchPart, branchParts, sharedParts, pFrom, pTo, qFrom, qTo}
-use Rattle.acopf.specs.Rows.{Row, balanceRow, pBalance, qBalance, referenceRow, angleRow, rated, thermalRow, thermalRows, segmentRow, segmentRows, rows}
+use Rattle.acopf.specs.Parts.{vmSquared, branchPart, branchParts, sharedParts, pFromPart, pToPart, qFromPart, qToPart}
+use Rattle.acopf.specs.Rows.{Row, balanceRow, pBalanceRow, qBalanceRow, referenceRow, angleRow, rated, thermalRow, thermalRows, segmentRow, segmentRows, rows}
 use Rattle.acopf.specs.Model.{costTerm, objective, model}
 use Rattle.acopf.proofs.Counts.{length-shared, model-shared}
 use Rattle.reading.proofs.Sized.{Sized, sized-constant, sized-column, sized-shared, sized-none, sized-more, sized-over, sized-within, sized-two, sized-one, sized-scaled, sized-sum, summed, few-constants, ruled, parts-ruled}
@@ -144,7 +144,7 @@ module _ (ws : List ℕ) (xs : List Float) (G : Good ws xs) where
         (sized-two 3 (omega arith) (omega arith) (sized-scaled (slope xs (curveAt ws g) s) (sized-column (pg-in g h))) (sized-constant _))) (omega arith) (omega arith)
 
     rows-sized : Every RowSized 0 (rows ws xs)
-    unfolding rows pBalance qBalance thermalRows segmentRows
+    unfolding rows pBalanceRow qBalanceRow thermalRows segmentRows
     rows-sized =
         every-append (every-append (every-append (every-append (every-append
         (every-table (buses ws) _ (λ i h. balance-sized i _ _ _ 4 6 h pg-in (omega arith) (omega arith)))
@@ -189,13 +189,13 @@ module _ (ws : List ℕ) (xs : List Float) (G : Good ws xs) where
       let angle-le = each-le 1 (branches ws) (λ b. keep (angled ws b) (angleRow ws xs b)) (λ b l. keep-le (angled ws b) (angleRow ws xs b)) in
       let thermal-le = each-le 2 (branches ws) (thermalRows ws xs) (λ b l. omega (
         arith,
-        length-append (keep (rated ws xs b) (thermalRow ws xs b (pFrom ws b) (qFrom ws b))) (keep (rated ws xs b) (thermalRow ws xs b (pTo ws b) (qTo ws b))),
-        keep-le (rated ws xs b) (thermalRow ws xs b (pFrom ws b) (qFrom ws b)),
-        keep-le (rated ws xs b) (thermalRow ws xs b (pTo ws b) (qTo ws b)),
+        length-append (keep (rated ws xs b) (thermalRow ws xs b (pFromPart ws b) (qFromPart ws b))) (keep (rated ws xs b) (thermalRow ws xs b (pToPart ws b) (qToPart ws b))),
+        keep-le (rated ws xs b) (thermalRow ws xs b (pFromPart ws b) (qFromPart ws b)),
+        keep-le (rated ws xs b) (thermalRow ws xs b (pToPart ws b) (qToPart ws b)),
       )) in
       let segment-le = each-le 15 (generators ws) (segmentRows ws xs) (λ g l. segments-le (curved ws g) g l) in
-      let p = table (buses ws) (pBalance ws xs) in
-      let q = table (buses ws) (qBalance ws xs) in
+      let p = table (buses ws) (pBalanceRow ws xs) in
+      let q = table (buses ws) (qBalanceRow ws xs) in
       let r = table (references ws) (referenceRow ws xs) in
       let a = each (branches ws) (λ b. keep (angled ws b) (angleRow ws xs b)) in
       let t = each (branches ws) (thermalRows ws xs) in
@@ -207,8 +207,8 @@ module _ (ws : List ℕ) (xs : List Float) (G : Good ws xs) where
         length-append (p ++ q ++ r) a,
         length-append (p ++ q) r,
         length-append p q,
-        length-table (buses ws) (pBalance ws xs),
-        length-table (buses ws) (qBalance ws xs),
+        length-table (buses ws) (pBalanceRow ws xs),
+        length-table (buses ws) (qBalanceRow ws xs),
         length-table (references ws) (referenceRow ws xs),
         G .few-buses,
         G .few-generators,

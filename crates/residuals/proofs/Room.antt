@@ -22,7 +22,7 @@ use Rattle.acopf.specs.Columns.{vmLower, vmUpper}
 use Rattle.acopf.specs.Rows.{rated}
 use Rattle.derived.specs.contracts.Agree.{PerBus, Ready}
 use Rattle.derived.specs.Outputs.{va, ownObjective, withdrawn, pInjection, qInjection, pFrom, qFrom, pTo, qTo, flows}
-use Rattle.derived.specs.contracts.Scratch.{FlowsAre, Held}
+use Rattle.derived.specs.contracts.Scratch.{FlowsAre, Filled}
 use Rattle.derived.proofs.Scratch.{per-bus-copied}
 use Rattle.residuals.specs.Residuals.{largest, largestWhere, pBalance, qBalance, activeBalance, reactiveBalance, variableBounds, referenceAngles, angleLimits, thermalLimits, epigraphs, objectiveDifference, residuals}
 use Rattle.residuals.specs.contracts.Section.{generatorLower, generatorUpper}
@@ -99,7 +99,7 @@ unfolding residuals
 residuals-are ws xs x fs solver a b c d e f g h p q r s t u v w = rw (p, q, r, s, t, u, v, w)
 
 -- the balances, from a copy of the injections, by what `balances` says of its list
-pub balanced : {ws : List ℕ} {xs x : List Float} {l : Layout} (scratch blank copy list : List Float) → Held ws xs x l scratch
+pub balanced : {ws : List ℕ} {xs x : List Float} {l : Layout} (scratch blank copy list : List Float) → Filled ws xs x l scratch
     → copy ≡ take (2 * l .buses) scratch ++ drop (2 * l .buses) blank → 2 * l .buses ≤ length list
     → ((fs : List (List Float)) (p q : ℕ → Float) → FlowsAre fs (l .buses) (l .branches) (l .branches) scratch → PerBus (l .buses) (l .buses) p q copy
     → PerBus (l .buses) (l .buses) (λ i. withdrawn ws i (pFrom fs) (pTo fs) (p i)) (λ i. withdrawn ws i (qFrom fs) (qTo fs) (q i)) list)

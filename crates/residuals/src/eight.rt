@@ -13,7 +13,7 @@ use network::Layout;
 ghost use mathlib.Core.Path.{_≡_};
 ghost use Rattle.derived.specs.contracts.Agree.{Ready};
 ghost use Rattle.derived.specs.Outputs.{flows};
-ghost use Rattle.derived.specs.contracts.Scratch.{Held};
+ghost use Rattle.derived.specs.contracts.Scratch.{Filled};
 ghost use Rattle.residuals.specs.contracts.Derived.{CostsAre, Balanced};
 ghost use Rattle.residuals.specs.Residuals.{residuals};
 
@@ -29,7 +29,7 @@ fn residuals_of(
     costs: Costs,
 ) -> [f64; 8]
     requires { ⌜ (Ready (now words) (now numbers) (now point) layout)
-        × (Held (now words) (now numbers) (now point) layout (now scratch))
+        × (Filled (now words) (now numbers) (now point) layout (now scratch))
         × (Balanced (now words) (now numbers) (now point) layout (now balance))
         × (CostsAre (now words) (now numbers) (now point) costs) ⌝ }
     ensures { λ r. ⌜ (let ws = now (words .entry) in let xs = now (numbers .entry) in let x = now (point .entry) in
@@ -65,7 +65,7 @@ pub fn residuals_at(
     costs: Costs,
 ) -> [f64; 8]
     requires { ⌜ (Ready (now words) (now numbers) (now point) layout)
-        × (Held (now words) (now numbers) (now point) layout (now scratch))
+        × (Filled (now words) (now numbers) (now point) layout (now scratch))
         × (CostsAre (now words) (now numbers) (now point) costs) ⌝ }
     ensures { λ r. ⌜ (let ws = now (words .entry) in let xs = now (numbers .entry) in let x = now (point .entry) in
         r ≡ residuals ws xs x (flows ws xs x) solver) ⌝ }

@@ -14,7 +14,7 @@ use Rattle.network.specs.declared.layout.Layout.{Layout}
 use Rattle.network.specs.Layout.{Laid, branchRecord}
 use Rattle.network.specs.Network.{buses, generators, branches, references, angled, curved, segments}
 use Rattle.acopf.specs.declared.tallies.Tallies.{Tallies}
-use Rattle.acopf.specs.Rows.{Row, balanceRow, pBalance, qBalance, referenceRow, angleRow, rated, thermalRows, segmentRow, segmentRows, rows, rowLower, rowUpper}
+use Rattle.acopf.specs.Rows.{Row, balanceRow, pBalanceRow, qBalanceRow, referenceRow, angleRow, rated, thermalRows, segmentRow, segmentRows, rows, rowLower, rowUpper}
 use Rattle.acopf.specs.Tallies.{Tallied}
 use Rattle.acopf.proofs.Counts.{lower-rows, upper-rows}
 use Rattle.acopf.proofs.Sizes.{count-rows}
@@ -44,7 +44,7 @@ module _ {A : Type 0} {B : Type 0} (f : A → B) where
 
 module _ (ws : List ℕ) (xs : List Float) where
   abbrev balances : List Row
-  balances = table (buses ws) (pBalance ws xs) ++ table (buses ws) (qBalance ws xs) ++ table (references ws) (referenceRow ws xs)
+  balances = table (buses ws) (pBalanceRow ws xs) ++ table (buses ws) (qBalanceRow ws xs) ++ table (references ws) (referenceRow ws xs)
 
   abbrev angles : List Row
   angles = each (branches ws) (λ b. keep (angled ws b) (angleRow ws xs b))
@@ -58,15 +58,15 @@ module _ (ws : List ℕ) (xs : List Float) where
 
   length-balances : length balances ≡ 2 * buses ws + references ws
   length-balances =
-      let p = table (buses ws) (pBalance ws xs) in
-      let q = table (buses ws) (qBalance ws xs) in
+      let p = table (buses ws) (pBalanceRow ws xs) in
+      let q = table (buses ws) (qBalanceRow ws xs) in
       let f = table (references ws) (referenceRow ws xs) in
       omega (
         arith,
         length-append (p ++ q) f,
         length-append p q,
-        length-table (buses ws) (pBalance ws xs),
-        length-table (buses ws) (qBalance ws xs),
+        length-table (buses ws) (pBalanceRow ws xs),
+        length-table (buses ws) (qBalanceRow ws xs),
         length-table (references ws) (referenceRow ws xs),
       )
 
@@ -93,8 +93,8 @@ module _ (ws : List ℕ) (xs : List Float) where
 
     module _ (bound : Row → Float) (side : Side) (free : Float) where
       record Sided : Type 0 where
-        pub p : (i : ℕ) → bound (pBalance ws xs i) ≡ zero64
-        pub q : (i : ℕ) → bound (qBalance ws xs i) ≡ zero64
+        pub p : (i : ℕ) → bound (pBalanceRow ws xs i) ≡ zero64
+        pub q : (i : ℕ) → bound (qBalanceRow ws xs i) ≡ zero64
         pub reference : (r : ℕ) → bound (referenceRow ws xs r) ≡ zero64
         pub angle : (b : ℕ) → bound (angleRow ws xs b) ≡ angleBound side (branchRecord ws xs b)
         pub thermal : (b i : ℕ) → Every (λ j r. bound r ≡ free) i (thermalRows ws xs b)
@@ -135,7 +135,7 @@ module _ (ws : List ℕ) (xs : List Float) where
             ∙ ap₂ (λ x y. x ++ y) (map-append bound balances angles ∙ ap₂ (λ x y. x ++ y) of-balances of-angles) of-margins
 
     lower-sided : Sided (λ r. r .lower) Lower zero64
-    unfolding pBalance qBalance balanceRow thermalRows segmentRow
+    unfolding pBalanceRow qBalanceRow balanceRow thermalRows segmentRow
     lower-sided = record {
       p = λ i. refl;
       q = λ i. refl;
@@ -146,7 +146,7 @@ module _ (ws : List ℕ) (xs : List Float) where
     }
 
     upper-sided : Sided (λ r. r .upper) Upper huge64
-    unfolding pBalance qBalance balanceRow thermalRows segmentRow
+    unfolding pBalanceRow qBalanceRow balanceRow thermalRows segmentRow
     upper-sided = record {
       p = λ i. refl;
       q = λ i. refl;

@@ -17,7 +17,7 @@ use Rattle.network.specs.declared.layout.Layout.{Layout}
 use Rattle.network.specs.Layout.{Laid}
 use Rattle.acopf.specs.Factor.{firstNonFinite, networkFault}
 use Rattle.derived.specs.Outputs.{flows, outputs}
-use Rattle.derived.specs.contracts.Scratch.{Held}
+use Rattle.derived.specs.contracts.Scratch.{Filled}
 use Rattle.derived.proofs.Scratch.{front-outputs}
 use Rattle.derived.proofs.Outputs.{length-outputs}
 use Rattle.residuals.specs.Residuals.{residuals}
@@ -36,7 +36,7 @@ count-is L = omega (arith, ap (λ z. z .buses) (L .words .is), ap (λ z. z .bran
 -- ---- what is worked out from a point
 
 module _ {ws : List ℕ} {xs x : List Float} {l : Layout} {scratch : List Float} {c : Costs} {d : Fault} (solver : Float)
-    (L : Laid ws xs l) (H : Held ws xs x l scratch) (C : CostsAre ws xs x c)
+    (L : Laid ws xs l) (H : Filled ws xs x l scratch) (C : CostsAre ws xs x c)
     (is : d ≡ firstNonFinite 15 (take (2 * l .buses + 4 * l .branches) scratch ++ (solver ∷ c .objective ∷ []))) where
   front : take (2 * l .buses + 4 * l .branches) scratch ≡ outputs ws xs x (flows ws xs x)
   front =

@@ -5,7 +5,7 @@ use mathlib.Core.List.{List, [], _∷_, _++_}
 use lib.Ieee.{Float, binary64, toBits}
 use Rattle.base.specs.Loop.{each}
 use Rattle.base.specs.Word.{word}
-use Rattle.acopf.specs.Rows.{pBalance, qBalance}
+use Rattle.acopf.specs.Rows.{pBalanceRow, qBalanceRow}
 use Rattle.writer.specs.contracts.Tokens.{Token, fixed, numbered, begins, partTokens}
 
 -- the row's beginning, the sum's own word, demand and shunt
@@ -16,7 +16,7 @@ rowHead terms i demand shunt =
 
 -- bus i's q balance, else its p balance
 unfoldable pub balanceOf : List ℕ → List Float → Bool → ℕ → List Token
-balanceOf ws xs reactive i = partTokens 11 (cond reactive (qBalance ws xs i .expression) (pBalance ws xs i .expression) ∷ [])
+balanceOf ws xs reactive i = partTokens 11 (cond reactive (qBalanceRow ws xs i .expression) (pBalanceRow ws xs i .expression) ∷ [])
 
 -- all p balances, then all q balances
 unfoldable pub balancesOf : List ℕ → List Float → ℕ → List Token

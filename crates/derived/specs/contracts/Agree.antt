@@ -24,5 +24,5 @@ pub record PerBus (n count : ℕ) (f g : ℕ → Float) (l : List Float) : Type 
   pub two : At count (λ i. n + i) g l
 
 -- from place `from` on, the list is as it was
-abbrev pub Kept : ℕ → List Float → List Float → Type 0
-Kept from before after = (j : ℕ) → from ≤ j → getD after j nan ≡ getD before j nan
+abbrev pub Untouched : ℕ → List Float → List Float → Type 0
+Untouched from before after = (j : ℕ) → from ≤ j → getD after j nan ≡ getD before j nan

@@ -41,7 +41,7 @@ pub record FlowsAre (fs : List (List Float)) (n m count : ℕ) (l : List Float) 
   pub q-to : At count (λ b. 2 * n + 3 * m + b) (qTo fs) l
 
 -- the list's front is the outputs of the point x
-pub record Held (ws : List ℕ) (xs x : List Float) (l : Layout) (list : List Float) : Type 0 where
+pub record Filled (ws : List ℕ) (xs x : List Float) (l : Layout) (list : List Float) : Type 0 where
   pub room : 2 * l .buses + 4 * l .branches ≤ length list
   pub injections-are : InjectionsAre ws xs x l list
   pub flows-are : FlowsAre (flows ws xs x) (l .buses) (l .branches) (l .branches) list

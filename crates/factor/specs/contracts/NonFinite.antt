@@ -26,8 +26,8 @@ unfoldable pub coefficientsFault : List Float → ℕ → Fault
 coefficientsFault cs place = first 12 (λ c. nonFinite (getD cs c nan) (place + c))
 
 -- slope and intercept of each of a curve's first `count` segments
-unfoldable pub curveFault : List Float → ℕ → ℕ → ℕ → Fault
-curveFault xs at count place =
+unfoldable pub segmentsFault : List Float → ℕ → ℕ → ℕ → Fault
+segmentsFault xs at count place =
     first count (λ s. orElse (nonFinite (slope xs at s) (place + 2 * s)) (nonFinite (intercept xs at s) (place + 2 * s + 1)))
 
 module _ (ws : List ℕ) (xs : List Float) where
@@ -35,7 +35,7 @@ module _ (ws : List ℕ) (xs : List Float) where
   branchesFactor = first (branches ws) (λ b. coefficientsFault (coefficients ws xs b) (12 * b))
 
   unfoldable pub curvesFactor : ℕ → Fault
-  curvesFactor place = first (generators ws) (λ g. curveFault xs (curveAt ws g) (rowSegments ws g) (place + 2 * segmentsBefore ws g))
+  curvesFactor place = first (generators ws) (λ g. segmentsFault xs (curveAt ws g) (rowSegments ws g) (place + 2 * segmentsBefore ws g))
 
   unfoldable pub epigraphsFactor : ℕ → Fault
   epigraphsFactor place =

@@ -3,7 +3,7 @@ use native.Mathlib.Omega.{arith}
 use mathlib.Core.Path.{_≡_, refl}
 use Prim.Native.Nat.{_*_, _-_, _≤_}
 use lib.ListN.{length, length-set}
-use Rattle.derived.specs.contracts.Agree.{PerBus, Kept}
+use Rattle.derived.specs.contracts.Agree.{PerBus, Untouched}
 use Rattle.derived.specs.contracts.Scratch.{pDemand, qDemand}
 use Rattle.derived.proofs.Scratch.{per-bus-next, kept-two}
 use Rattle.derived.proofs.Turns.{demand-p, demand-q}
@@ -12,7 +12,7 @@ use Rattle.derived.proofs.bus.demands.Tie as tie
 
 abbrev Inv-loop : tie.InvT-loop
 Inv-loop words numbers point layout list₀ n i₀ list i =
-    (i ≤ n) × (length list ≡ length list₀) × PerBus n i (pDemand words numbers point) (qDemand words numbers point) list × Kept (2 * n) list₀ list
+    (i ≤ n) × (length list ≡ length list₀) × PerBus n i (pDemand words numbers point) (qDemand words numbers point) list × Untouched (2 * n) list₀ list
 
 abbrev μ-loop : tie.MeasureT-loop
 μ-loop words numbers point layout list₀ n i₀ list i = n - i

@@ -6,7 +6,7 @@ use lib.Ieee.{Float}
 use lib.ListN.{length, length-set}
 use Rattle.network.specs.Network.{generators}
 use Rattle.network.specs.contracts.Records.{Standing}
-use Rattle.derived.specs.contracts.Agree.{PerBus, Kept}
+use Rattle.derived.specs.contracts.Agree.{PerBus, Untouched}
 use Rattle.derived.specs.Outputs.{pg, qg}
 use Rattle.derived.proofs.Scratch.{Injected, injected-none, injected-all, kept-two}
 use Rattle.derived.proofs.Turns.{injected-turn}
@@ -16,7 +16,7 @@ use Rattle.derived.proofs.bus.generation.Tie as tie
 abbrev Inv-loop : tie.InvT-loop
 Inv-loop words numbers point layout list₀ n k cursor₀ list cursor =
     (Standing words layout cursor) × (length list ≡ length list₀)
-    × ((p q : ℕ → Float) → PerBus n n p q list₀ → Injected words n (pg words point) (qg words point) p q list (cursor .index)) × Kept (2 * n) list₀ list
+    × ((p q : ℕ → Float) → PerBus n n p q list₀ → Injected words n (pg words point) (qg words point) p q list (cursor .index)) × Untouched (2 * n) list₀ list
 
 abbrev μ-loop : tie.MeasureT-loop
 μ-loop words numbers point layout list₀ n k cursor₀ list cursor = k - cursor .index

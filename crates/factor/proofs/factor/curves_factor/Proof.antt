@@ -39,8 +39,8 @@ generator-of-requires c κs = search needs
 row-segments-requires : tie.Need-row-segments-requires Inv-loop μ-loop
 row-segments-requires c κs = search needs
 
-curve-fault-requires : tie.Need-curve-fault-requires Inv-loop μ-loop
-curve-fault-requires c κs =
+segments-fault-requires : tie.Need-segments-fault-requires Inv-loop μ-loop
+segments-fault-requires c κs =
     let pre = c .before .before .before .before .before .before .before .before .before .pre in
     let inv = c .before .before .before .before .before .loop .inv in
     let generator = c .before .generator-of in
@@ -56,7 +56,7 @@ returns c =
     let inv = c .before .before .before .before .before .before .before .before .loop .inv in
     let g = ap (λ l. l .generators) (c .before .before .before .before .before .before .before .before .before .before .before .before .pre .0 .words .is) in
     let count = c .before .before .before .row-segments .ensures .0 in
-    let turn = c .before .before .curve-fault .ensures ∙ curve-read (c .before .before .before .before .before .before .before .before .before .before .before .before .args .start) (c .before .before .before .before .generator-of .ensures) count (inv .1) in
+    let turn = c .before .before .segments-fault .ensures ∙ curve-read (c .before .before .before .before .before .before .before .before .before .before .before .before .args .start) (c .before .before .before .before .generator-of .ensures) count (inv .1) in
     first-here _ _ _ _ (rw (← g) (c .before .before .before .before .before .if1 .taken)) (inv .3) turn (c .if2 .taken)
 
 mul-place : tie.Need-mul-place Inv-loop μ-loop
@@ -82,7 +82,7 @@ loop-again c =
     let read = c .before .before .before .before .before .generator-of .ensures in
     let next = c .next-generator .ensures in
     let count = c .before .before .before .before .row-segments .ensures in
-    let turn = c .before .before .before .curve-fault .ensures ∙ curve-read start read (count .0) (inv .1) in (
+    let turn = c .before .before .before .segments-fault .ensures ∙ curve-read start read (count .0) (inv .1) in (
       next .0,
       rw (next .1) (place-read start read (count .0) (inv .1)),
       rw (next .1) (omega (arith, count .1, read .points, inv .2)),
@@ -106,7 +106,7 @@ curves-factor-spec =
     loop-holds
     generator-of-requires
     row-segments-requires
-    curve-fault-requires
+    segments-fault-requires
     returns
     mul-place
     add-place
