@@ -84,5 +84,6 @@ pub record Accepted (ws : List ℕ) (xs x : List Float) (solver : Float) (lent :
       → NotAbove (maximum (maximum (hypotenuse (pFrom (flows ws xs x) b) (qFrom (flows ws xs x) b))
       (hypotenuse (pTo (flows ws xs x) b) (qTo (flows ws xs x) b)) ⊖ sMax ws xs b) zero64)
   -- every epigraph column reaches its curve, and the solver's objective is the point's
-  pub curve : (g : ℕ) → g < generators ws → curved ws g ≡ true → NotAbove (maximum (curveValue ws xs g (pg ws x g) ⊖ epigraph ws x g) zero64)
+  pub curve : (g : ℕ) → g < generators ws → curved ws g ≡ true
+      → NotAbove (maximum (curveValue ws xs g (pg ws x g) ⊖ epigraph ws x g) zero64)
   pub objective : NotAbove (absolute (solver ⊖ ownObjective ws xs x) ⊘ maximum (absolute (ownObjective ws xs x)) one64)

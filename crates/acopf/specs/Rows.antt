@@ -58,7 +58,9 @@ module _ (ws : List ℕ) (xs : List Float) where
   thermalRow b p q = margin (subtract (literal (sMax ws xs b ⊗ sMax ws xs b)) (add (square p) (square q)))
 
   unfoldable pub thermalRows : ℕ → List Row
-  thermalRows b = keep (rated ws xs b) (thermalRow b (pFromPart ws b) (qFromPart ws b)) ++ keep (rated ws xs b) (thermalRow b (pToPart ws b) (qToPart ws b))
+  thermalRows b =
+      keep (rated ws xs b) (thermalRow b (pFromPart ws b) (qFromPart ws b))
+      ++ keep (rated ws xs b) (thermalRow b (pToPart ws b) (qToPart ws b))
 
   -- the epigraph column less slope times pg plus intercept
   unfoldable pub segmentRow : ℕ → ℕ → Row

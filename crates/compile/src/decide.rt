@@ -13,7 +13,6 @@ ghost use mathlib.Core.Bool.{cond, not, _&&_};
 ghost use Prim.Native.Nat.{_+_, _-_, _*_, _≤_};
 ghost use lib.Dec.{eqb, leb, ltb};
 ghost use lib.ListN.{length, getD};
-ghost use Rattle.base.proofs.Loops.{bit};
 ghost use Rattle.base.specs.Fault.{fault, unless, first};
 ghost use Rattle.base.specs.Refusal.{SHORT};
 ghost use Rattle.network.specs.Layout.{Laid};
@@ -46,7 +45,7 @@ fn refused(f: Fault) -> Compiled
 // A cost's words: one an epigraph column, eight a quadratic cost, and a sum's own from two terms on.
 fn cost_words(k: usize, epigraphs: usize) -> usize
     requires { ⌜ (epigraphs ≤ k) × (k ≤ mostGenerators) ⌝ }
-    ensures { λ r. ⌜ (r ≡ bit (ltb 1 k) + (epigraphs + 8 * (k - epigraphs))) × (r ≤ 2049) ⌝ }
+    ensures { λ r. ⌜ (r ≡ cond (ltb 1 k) 1 0 + (epigraphs + 8 * (k - epigraphs))) × (r ≤ 2049) ⌝ }
 {
     let terms = epigraphs + 8 * (k - epigraphs);
     if 1 < k {
@@ -58,7 +57,7 @@ fn cost_words(k: usize, epigraphs: usize) -> usize
 // Counts the objective's words; without a term it is one constant.
 fn objective_words(costs: bool, k: usize, epigraphs: usize) -> usize
     requires { ⌜ (epigraphs ≤ k) × (k ≤ mostGenerators) ⌝ }
-    ensures { λ r. ⌜ (r ≡ cond (costs && not (eqb k 0)) (bit (ltb 1 k) + (epigraphs + 8 * (k - epigraphs))) 1) × (r ≤ 2049) ⌝ }
+    ensures { λ r. ⌜ (r ≡ cond (costs && not (eqb k 0)) (cond (ltb 1 k) 1 0 + (epigraphs + 8 * (k - epigraphs))) 1) × (r ≤ 2049) ⌝ }
 {
     let some = k != 0;
     if costs & some {

@@ -1,4 +1,4 @@
-// Refusal 11, by the leaves that the model is made of and in time linear in the network, and the first refusal of a network.
+// Refusal 11, whose word is factor, by the model's leaves and in time linear in the network; the first refusal of a network.
 mod factor;
 mod first;
 

@@ -10,7 +10,7 @@ use lib.Ieee.{Float, nan, inf, fin, ne, isNan, binary64, toBits, ofBits, nanBits
 use lib.Ieee.Bits.{nanBits-above}
 use borrow.Author.Tests.{le-ltb, lt-leb, ne-eqb}
 use Rattle.fdlibm.specs.Sqrt.{squareRoot, rootOf, evenExponent}
-use Rattle.fdlibm.specs.Near.{Near}
+use Rattle.fdlibm.specs.contracts.Near.{Near}
 use Rattle.fdlibm.proofs.Square.{sq-add, sq-suc, root-near}
 
 pub number : (n : ℕ) → n % 2 ^ 63 ≤ 0x7ff0_0000_0000_0000 → T (not (nanBits binary64 n))

@@ -18,7 +18,8 @@ use borrow.Author.Tests.{lt-leb, ne-eqb, eq-eqb, ltb-true, ltb-false, leb-true, 
 use Rattle.float.specs.Number.{isFinite, absolute}
 use Rattle.float.proofs.Patterns.{normal-value, subnormal-value, zero-bits, absolute-bits, finite-bits}
 use Rattle.fdlibm.specs.Sqrt.{squareRoot, rootOf, normalized, evenExponent}
-use Rattle.fdlibm.specs.Near.{Near, Nearest}
+use Rattle.fdlibm.specs.Near.{Nearest}
+use Rattle.fdlibm.specs.contracts.Near.{Near}
 use Rattle.fdlibm.proofs.Turns.{norm-up, norm-same, norm-none}
 use Rattle.fdlibm.proofs.Quick.{root-normal}
 use Rattle.fdlibm.proofs.Square.{sq-add, sq-suc, sq-odd, found, found-near, found-digits, root-of-found, evened-in}

@@ -8,7 +8,7 @@ use lib.Dec.{leb, ltb, eqb}
 use borrow.Author.Tests.{leb-true, ltb-true, ltb-false, eqb-true}
 use Rattle.fdlibm.specs.declared.e_sqrt.Root.{Root}
 use Rattle.fdlibm.specs.Sqrt.{nextBit, bitByBit, start, rounded, rootOf, evenExponent}
-use Rattle.fdlibm.specs.Near.{Near}
+use Rattle.fdlibm.specs.contracts.Near.{Near}
 use Rattle.fdlibm.proofs.Turns.{Good, good-start, good-step}
 
 -- q is n's root, rounded down

@@ -1,14 +1,9 @@
--- Nearest roots: of whole numbers, which a guess of the root is checked by, and of floats, for the law that a root is correctly rounded.
+-- The nearest root, for the law that a root is correctly rounded.
 use mathlib.Core.Path.{_≡_}
 use Prim.Native.Nat.{ℕ, _+_, _-_, _*_, _<_, _≤_, _^_}
 use mathlib.Core.Bool.{false}
 use lib.Ieee.{Float}
 use lib.Ieee.Exact.{HasValue}
-
--- w is the whole number nearest to m's root: (w - 1/2)^2 < m < (w + 1/2)^2
-pub record Near (m w : ℕ) : Type 0 where
-  pub low : w * w < m + w
-  pub high : m ≤ w * w + w
 
 -- r is x's root, correctly rounded: x is size / 2^1074 and r is p * 2^k / 2^1074, p has 53 digits, and the root is within
 -- half a unit of r's last digit. Where p is 2^52 the number below r is half as far, and the root is not below r.

@@ -3,7 +3,7 @@ ghost use mathlib.Core.Path.{_≡_};
 ghost use mathlib.Core.Logic.{_⊎_};
 ghost use Prim.Native.Nat.{ℕ, _+_, _*_, _<_, _≤_, _/_, _%_, _^_};
 ghost use Rattle.fdlibm.specs.Sqrt.{squareRoot};
-ghost use Rattle.fdlibm.specs.Near.{Near};
+ghost use Rattle.fdlibm.specs.contracts.Near.{Near};
 
 // A guess of the root of the number from 1 below 4 whose pattern is 1.0's and n. Nothing is claimed of it: settled() checks it.
 // A first guess of 1/sqrt(z) from the halved pattern, three of Newton's steps, and one for the root itself bring it mostly within an ulp.

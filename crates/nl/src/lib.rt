@@ -1,4 +1,5 @@
-// The model file: its one reading, the finder of a row, the row's part, and whether two models are the same.
+// The model file, in place of the Rust's pounce_nl: its one reading, the finder of a row, the row's part, and whether two models are
+// the same.
 //
 // Time: each call of `read_expr` takes a word or ends the reading, and so does each turn of its loop, whose first step is such a call.
 // A sum that claims 2^28 terms stops where the words stop. Each part takes its beginning word. So the finder ends after steps in

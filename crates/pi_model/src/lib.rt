@@ -1,4 +1,4 @@
-// The flows of a branch, whose admittances are those of its pi model: branch_flow's coefficients for the model and numeric_branch_flow for the check.
+// A branch's flows by its pi model, with the Rust's names: branch_flow's coefficients for the model, numeric_branch_flow for the check.
 mod complex;
 mod flow;
 

@@ -9,8 +9,8 @@ use lib.Ieee.{Float, nan, inf}
 use Rattle.base.specs.Loop.{loop, table}
 use Rattle.base.proofs.Loops.{getD-table}
 use Rattle.float.specs.Number.{_⊕_, _⊗_, maximum}
-use Rattle.piecewise_cost.specs.Curve.{slope, intercept, slopes, intercepts, evaluate}
-use Rattle.piecewise_cost.specs.contracts.Prepared.{Prepared}
+use Rattle.piecewise_cost.specs.Curve.{slope, intercept, evaluate}
+use Rattle.piecewise_cost.specs.contracts.Prepared.{slopes, intercepts, Prepared}
 
 module _ {xs : List Float} {at : ℕ} where
   pub prepared-none : {l m : List Float} → Prepared xs at 0 l m

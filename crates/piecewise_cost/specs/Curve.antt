@@ -1,10 +1,10 @@
--- PiecewiseCost (006, from_prepared and evaluate): slopes and intercepts as two tables, and the value at a power.
+-- PiecewiseCost (006, from_prepared and evaluate): each segment's slope and intercept, and the value at a power.
 -- The curve's numbers start at `at`; document 01, "The network file": power, value pairs.
 use Prim.Native.Nat.{ℕ, _+_}
 use mathlib.Core.Bool.{true}
 use mathlib.Core.List.{List}
 use lib.Ieee.{Float, inf}
-use Rattle.base.specs.Loop.{loop, table}
+use Rattle.base.specs.Loop.{loop}
 use Rattle.float.specs.Number.{_⊕_, _⊖_, _⊗_, _⊘_, maximum}
 use Rattle.network.specs.Network.{power, value, curveAt, segments}
 
@@ -15,13 +15,6 @@ module _ (xs : List Float) (at : ℕ) where
 
   unfoldable pub intercept : ℕ → Float
   intercept s = value xs at s ⊖ slope s ⊗ power xs at s
-
-  -- the two tables, over so many segments
-  unfoldable pub slopes : ℕ → List Float
-  slopes count = table count slope
-
-  unfoldable pub intercepts : ℕ → List Float
-  intercepts count = table count intercept
 
   -- evaluate: the maximum over the segments, from minus infinity on
   unfoldable pub evaluate : ℕ → Float → Float

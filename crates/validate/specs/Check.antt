@@ -3,7 +3,7 @@ use Prim.Native.Nat.{ℕ, _+_, _*_}
 use mathlib.Core.Bool.{cond, not}
 use mathlib.Core.List.{List, [], _∷_, _++_}
 use lib.ListN.{length, getD, replicate}
-use lib.Dec.{eqb, leb}
+use lib.Dec.{eqb, leb, ltb}
 use lib.Ieee.{Float, nan, binary64, ofBits, lt}
 use Rattle.base.specs.declared.Fault.{Fault}
 use Rattle.base.specs.Fault.{fault, clear, unless, orElse, first, Section, section, firstOf, left}
@@ -23,6 +23,10 @@ tiny64 = ofBits binary64 0x3EB0_C6F7_A0B5_ED8D
 -- "a table of eight, all 1e-6"
 unfoldable pub tolerances : List Float
 tolerances = replicate 8 tiny64
+
+-- residual i, from 0, across the C boundary; an index past 7 answers 0
+unfoldable pub residualAt : List Float → ℕ → Float
+residualAt residuals i = cond (ltb i 8) (getD residuals i nan) zero64
 
 -- the length of the outputs, from the network alone: 2n + 4m, and 0 for a refused network
 unfoldable pub outputsNeeded : List ℕ → List Float → ℕ

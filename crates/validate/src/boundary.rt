@@ -10,7 +10,7 @@ ghost use lib.ListN.{length};
 ghost use Rattle.base.specs.Fault.{packed};
 ghost use Rattle.float.specs.Doubles.{Doubles};
 ghost use Rattle.validate.specs.Check.{outputsNeeded, checked, outputsAfter, residualsFault, reportAfter};
-ghost use Rattle.validate.specs.contracts.Verdict.{residualAt};
+ghost use Rattle.validate.specs.Check.{residualAt};
 
 // The length of the outputs, from the network alone: a host sizes its list by it before it lends it. 0 where the network is refused.
 #[no_mangle]

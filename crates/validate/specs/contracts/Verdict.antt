@@ -2,13 +2,10 @@
 use Prim.Native.Nat.{ℕ, _+_, _*_}
 use mathlib.Core.Path.{_≡_}
 use mathlib.Core.List.{List}
-use mathlib.Core.Bool.{cond}
-use lib.Dec.{ltb}
-use lib.ListN.{getD, take, replicate}
-use lib.Ieee.{Float, nan}
+use lib.ListN.{take, replicate}
+use lib.Ieee.{Float}
 use Rattle.base.specs.declared.Fault.{Fault}
 use Rattle.base.specs.Fault.{orElse}
-use Rattle.base.proofs.Firsts.{Clear}
 use Rattle.float.specs.Number.{zero64}
 use Rattle.network.specs.declared.layout.Layout.{Layout}
 use Rattle.acopf.specs.Factor.{networkFault}
@@ -22,21 +19,17 @@ faultGiven ws xs x solver = orElse (faultPoint ws xs x solver) (faultSwing ws xs
 
 -- refusals 1 to 14 are clear; `short` is 12 of the lent list
 pub record Cleared (ws : List ℕ) (xs x : List Float) (solver : Float) (short : Fault) : Type 0 where
-  pub network : Clear (networkFault ws xs)
-  pub lent : Clear short
-  pub given : Clear (faultGiven ws xs x solver)
+  pub network : networkFault ws xs .number ≡ 0
+  pub lent : short .number ≡ 0
+  pub given : faultGiven ws xs x solver .number ≡ 0
 
 -- m is what is worked out from the point, and the outputs are the scratch list's front
 pub record Measures (ws : List ℕ) (xs x : List Float) (solver : Float) (l : Layout) (scratch : List Float) (m : Measured) : Type 0 where
   pub fault-is : m .fault ≡ faultDerived ws xs x solver (solved ws xs x solver)
   pub objective-is : m .objective ≡ solved ws xs x solver .objective
-  pub residuals-are : Clear (m .fault) → m .residuals ≡ solved ws xs x solver .residuals
+  pub residuals-are : m .fault .number ≡ 0 → m .residuals ≡ solved ws xs x solver .residuals
   pub outputs-are : take (2 * l .buses + 4 * l .branches) scratch ≡ solved ws xs x solver .outputs
 
 -- "A refusal gives number and place, all else 0"
 abbrev pub refusal : Fault → Checked
 refusal f = record { fault = f; objective = zero64; residuals = replicate 8 zero64 }
-
--- residual i, from 0, across the C boundary; an index past 7 answers 0
-unfoldable pub residualAt : List Float → ℕ → Float
-residualAt residuals i = cond (ltb i 8) (getD residuals i nan) zero64

@@ -1,6 +1,6 @@
 use borrow.Author.Needs.{needs}
 use borrow.Author.Tests.{lt-ltb, le-ltb}
-use Rattle.validate.specs.contracts.Verdict.{residualAt}
+use Rattle.validate.specs.Check.{residualAt}
 use Rattle.validate.proofs.boundary.residual.Statement.{statement}
 use Rattle.validate.proofs.boundary.residual.Tie as tie
 
