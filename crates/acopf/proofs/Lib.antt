@@ -1,5 +1,6 @@
 pub mod Counts
 pub mod Sizes
+pub mod Constants
 pub mod Laws
 pub mod Order
 pub mod Finite

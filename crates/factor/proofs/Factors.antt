@@ -33,7 +33,8 @@ use Rattle.acopf.specs.Tallies.{rowSegments, segmentsBefore}
 use Rattle.factor.specs.contracts.NonFinite.{nonFinite, coefficientsFault, segmentsFault, branchesFactor, curvesFactor, epigraphsFactor}
 use Rattle.acopf.specs.Parts.{branchParts, sharedParts}
 use Rattle.acopf.specs.Rows.{Row, segmentRow, segmentRows, rows}
-use Rattle.factor.proofs.Fine.{finiteBits, FiniteBits, FineRow, rows-fine, objective-fine}
+use Rattle.acopf.proofs.Constants.{EachRow}
+use Rattle.factor.proofs.Fine.{finiteBits, FiniteBits, rows-fine, objective-fine}
 use Rattle.acopf.proofs.Finite.{zero-finite, huge-finite, low-finite, bound-finite}
 use Rattle.factor.proofs.Numbers.{back-finite, finite-or-finite, start-finite}
 use Rattle.acopf.proofs.Sizes.{firstRows, ratings, shared-constants, first-constants}
@@ -197,7 +198,7 @@ module _ (ws : List ℕ) (xs : List Float) where
 
     module _ (F : (j : ℕ) → T (fits binary64 (getD xs j nan))) where
       first-finite : Every FiniteBits 0 (gather rowConstants (firstRows ws xs))
-      first-finite = record { all = all-gather rowConstants FiniteBits FineRow (λ i r h. h .its) 0 0 (firstRows ws xs) (rows-fine ws xs right F .all) }
+      first-finite = record { all = all-gather rowConstants FiniteBits (EachRow FiniteBits) (λ i r h. h .its) 0 0 (firstRows ws xs) (rows-fine ws xs right F .all) }
 
       -- the place of the first slope
       abbrev pub atSegments : ℕ

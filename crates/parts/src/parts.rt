@@ -1,8 +1,6 @@
 // The shared parts: vm squared per bus, then eight per branch, by branch_flow's terms.
 use network::Layout;
-use network::branch_from;
 use network::branch_of;
-use network::branch_to;
 use pi_model::coefficients;
 use writer::Writer;
 use writer::model_word;
@@ -243,11 +241,10 @@ fn branch_flow(
         (now (file .exit)) (now (constants .exit)) r ⌝ }
 {
     let n = layout.buses;
-    let first = layout.branch_words;
-    let w = words[first + b];
-    let from = branch_from(w);
-    let to = branch_to(w);
-    let cs = coefficients(branch_of(words, numbers, layout, b));
+    let branch = branch_of(words, numbers, layout, b);
+    let from = branch.from;
+    let to = branch.to;
+    let cs = coefficients(branch);
     branch_parts(n, n + 8 * b, from, to, cs, file, constants, writer)
 }
 

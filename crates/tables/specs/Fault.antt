@@ -7,6 +7,7 @@ use Rattle.base.specs.declared.Fault.{Fault}
 use Rattle.base.specs.Fault.{fault, unless, orElse, first, Section, section, firstOf}
 use Rattle.base.specs.Refusal.{WORDS, SIZE, COUNT, BLANK, CURVE, SHIFT, BOUNDS, SPREAD, RATING, SQUARE}
 use Rattle.float.specs.Number.{_⊗_, zero64, isFinite}
+use Rattle.network.specs.Limits.{pointNumbers}
 use Rattle.network.specs.Network.{buses, generators, branches, points, busAt, generatorAt, curveAt, branchAt, segments, number, power}
 use Rattle.network.specs.Network.{vmBounded, capable, angled, limited, vmColumn, pgColumn, qgColumn}
 use Rattle.network.specs.Network.{vmMin, vmMax, pMin, pMax, qMin, qMax, shift, angleMin, angleMax, sMax}
@@ -22,14 +23,14 @@ module _ (ws : List ℕ) (xs : List Float) where
   unfoldable pub faultBlank : Fault
   faultBlank =
       orElse (first (buses ws) (λ i. blanks xs (busAt ws i) 4))
-      (orElse (first (generators ws) (λ g. orElse (blanks xs (generatorAt ws g + 4) 3) (blanks xs (curveAt ws g) (2 * points ws g))))
+      (orElse (first (generators ws) (λ g. orElse (blanks xs (generatorAt ws g + 4) 3) (blanks xs (curveAt ws g) (pointNumbers * points ws g))))
       (first (branches ws) (λ b. blanks xs (branchAt ws b) 8)))
 
   -- 5 curve: a power not above the one before
   unfoldable pub faultCurve : Fault
   faultCurve =
       first (generators ws) (λ g. first (segments ws g) (λ s.
-      unless (lt (power xs (curveAt ws g) s) (power xs (curveAt ws g) (s + 1))) (fault CURVE (curveAt ws g + 2 * (s + 1)))))
+      unless (lt (power xs (curveAt ws g) s) (power xs (curveAt ws g) (s + 1))) (fault CURVE (curveAt ws g + pointNumbers * (s + 1)))))
 
   -- 6 shift
   unfoldable pub faultShift : Fault
