@@ -33,7 +33,7 @@ fn refused(f: Fault) -> Checked
     }
 }
 
-// The scratch list of a small network: to clear the large one would take longer than its check.
+// The scratch list of a small network: to clear the large one would take as long as its check.
 const FEW_OUTPUTS: usize = 128;
 
 // 15, 16 and the outputs, where 1 to 14 are clear; the scratch list takes the outputs until the point is accepted.
