@@ -7,7 +7,8 @@ use native.Mathlib.Omega.{arith}
 use lib.Dec.{eqb}
 use lib.ListN.{length, getD}
 use lib.Ieee.{Float}
-use Rattle.base.proofs.Firsts.{Clear, or-left, or-right}
+use borrow.Author.Tests.{eqb-true}
+use Rattle.base.proofs.Firsts.{Clear, or-left, or-right, unless-true}
 use Rattle.base.specs.declared.Fault.{Fault}
 use Rattle.float.specs.Doubles.{Doubles}
 use Rattle.network.specs.Fault.{faultWords, faultSize, faultCount, wordsFault, formFault}
@@ -22,7 +23,7 @@ use Rattle.network.specs.declared.layout.Cursor.{Cursor}
 use Rattle.network.specs.Layout.{layoutOf, branchAtPlace, branchRecord, LaidWords, Laid, Formed}
 use Rattle.network.specs.contracts.Records.{generatorAtPlace, generatorRecord, Standing, GeneratorRead, BranchRead}
 use Rattle.network.proofs.Places.{words-length, bus-of-generator, no-single-point, from-bus, to-bus, referred-bus, limits}
-use Rattle.network.proofs.Good.{Good, good-shape, generator-zero, generator-next, generator-start, generator-high, generator-fits}
+use Rattle.network.proofs.Numbers.{generator-zero, generator-next, generator-start, generator-high, generator-fits}
 
 module _ (ws : List ℕ) where
   laid-words-of : Clear (faultWords ws) → Clear (faultSize ws) → LaidWords ws (layoutOf ws)
@@ -30,12 +31,12 @@ module _ (ws : List ℕ) where
       let l = limits ws s in
       record {
         is = refl;
-        some-bus = l .some-bus;
-        few-buses = l .few-buses;
-        few-generators = l .few-generators;
-        few-branches = l .few-branches;
-        few-references = l .few-references;
-        few-points = l .few-points;
+        some-bus = l .0;
+        few-buses = l .1;
+        few-generators = l .2;
+        few-branches = l .3;
+        few-references = l .4;
+        few-points = l .5;
         no-single = no-single-point ws w;
         generator-words = refl;
         branch-words = refl;
@@ -48,28 +49,29 @@ module _ (ws : List ℕ) where
         generator-numbers = refl;
         bus-ends = generator-start ws (generators ws);
         generator-ends = λ g h. generator-fits ws g (generators ws) h;
-        few-needed = omega (arith, generator-high ws l (generators ws) (omega arith), l .few-buses, l .few-generators, l .few-branches);
+        few-needed = omega (arith, generator-high ws (l .5) (generators ws) (omega arith), l .1, l .2, l .3);
       }
 
   pub laid-words : Clear (faultWords ws) → Clear (faultSize ws) → {l : Layout} → l ≡ layoutOf ws → LaidWords ws l
   laid-words w s e = rw e (laid-words-of w s)
 
 module _ (ws : List ℕ) (xs : List Float) where
-  laid-good : LaidWords ws (layoutOf ws) → Good ws xs → Doubles xs → Laid ws xs (layoutOf ws)
+  laid-count : LaidWords ws (layoutOf ws) → length xs ≡ needed ws → Doubles xs → Laid ws xs (layoutOf ws)
   unfolding needed branchAt
-  laid-good W G D = record {
+  laid-count W n D = record {
     words = W;
-    numbers = G .numbers;
-    few-numbers = omega (arith, G .numbers, G .few-numbers);
-    bus-fits = G .bus-fits;
-    generator-fits = G .generator-fits;
-    branch-fits = G .branch-fits;
+    numbers = n;
+    few-numbers = omega (arith, n, W .few-needed);
+    bus-fits = λ i h. omega (arith, n, generator-start ws (generators ws));
+    generator-fits = λ g h. omega (arith, n, generator-fits ws g (generators ws) h);
+    branch-fits = λ b h. omega (arith, n);
     doubles = D;
   }
 
   -- the network's form is right where 1, 2 and 3 are clear
   pub laid-form : Clear (faultWords ws) → Clear (faultSize ws) → Clear (faultCount ws xs) → Doubles xs → {l : Layout} → l ≡ layoutOf ws → Laid ws xs l
-  laid-form w s c D e = rw e (laid-good (laid-words-of ws w s) (good-shape ws xs w s c) D)
+  unfolding faultCount
+  laid-form w s c D e = rw e (laid-count (laid-words-of ws w s) (eqb-true _ _ (unless-true _ 3 _ (omega arith) c)) D)
 
 -- ---- the answers of the checks
 

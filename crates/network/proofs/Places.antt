@@ -16,6 +16,7 @@ use Rattle.base.specs.Word.{kindOf, loadOf}
 use Rattle.base.specs.declared.Fault.{Fault}
 use Rattle.network.specs.Fault.{wordRight, faultWords, faultSize}
 use Rattle.network.specs.Network.{kindBefore, buses, generators, branches, references, busOf, points, from, to, referred, generatorPlace, branchPlace, referencePlace}
+use Rattle.network.specs.Limits.{mostBuses, mostGenerators, mostBranches, mostReferences, mostPoints}
 use Rattle.network.specs.Word.{loadRight, generatorBus, generatorPoints, branchFrom, branchTo, referenceBus}
 
 pub and-left : (a b : Bool) → a && b ≡ true → a ≡ true
@@ -226,27 +227,20 @@ module _ (ws : List ℕ) (W : Clear (faultWords ws)) where
 
 -- ---- the limits
 
-pub record Limits (ws : List ℕ) : Type 0 where
-  pub some-bus : 1 ≤ buses ws
-  pub few-buses : buses ws ≤ 256
-  pub few-generators : generators ws ≤ 256
-  pub few-branches : branches ws ≤ 512
-  pub few-references : references ws ≤ 256
-  pub few-points : (g : ℕ) → g < generators ws → points ws g ≤ 16
-
-pub limits : (ws : List ℕ) → Clear (faultSize ws) → Limits ws
+pub limits : (ws : List ℕ) → Clear (faultSize ws)
+    → (1 ≤ buses ws) × (buses ws ≤ mostBuses) × (generators ws ≤ mostGenerators) × (branches ws ≤ mostBranches) × (references ws ≤ mostReferences)
+    × ((g : ℕ) → g < generators ws → points ws g ≤ mostPoints)
 unfolding faultSize
 limits ws h =
     let h1 = or-right _ _ h in
     let h2 = or-right _ _ h1 in
     let h3 = or-right _ _ h2 in
     let h4 = or-right _ _ h3 in
-    let h5 = or-right _ _ h4 in
-    record {
-      some-bus = leb-true 1 _ (unless-true _ 2 _ (omega arith) (or-left _ _ h));
-      few-buses = leb-true _ 256 (unless-true _ 2 _ (omega arith) (or-left _ _ h1));
-      few-generators = leb-true _ 256 (unless-true _ 2 _ (omega arith) (or-left _ _ h2));
-      few-branches = leb-true _ 512 (unless-true _ 2 _ (omega arith) (or-left _ _ h3));
-      few-references = leb-true _ 256 (unless-true _ 2 _ (omega arith) (or-left _ _ h4));
-      few-points = λ g l. leb-true _ 16 (unless-true _ 2 _ (omega arith) (first-clear _ _ h5 g l));
-    }
+    let h5 = or-right _ _ h4 in (
+      leb-true 1 _ (unless-true _ 2 _ (omega arith) (or-left _ _ h)),
+      leb-true _ mostBuses (unless-true _ 2 _ (omega arith) (or-left _ _ h1)),
+      leb-true _ mostGenerators (unless-true _ 2 _ (omega arith) (or-left _ _ h2)),
+      leb-true _ mostBranches (unless-true _ 2 _ (omega arith) (or-left _ _ h3)),
+      leb-true _ mostReferences (unless-true _ 2 _ (omega arith) (or-left _ _ h4)),
+      λ g l. leb-true _ mostPoints (unless-true _ 2 _ (omega arith) (first-clear _ _ h5 g l)),
+    )

@@ -9,7 +9,7 @@ use Rattle.base.specs.Loop.{loop, tally}
 use Rattle.base.specs.Word.{kindOf}
 use Rattle.network.specs.Word.{generatorPoints}
 use Rattle.network.specs.Network.{kindBefore, buses, generators, branchPlace, generatorAt, branchAt}
-use Rattle.network.proofs.Good.{generator-next, generator-fits}
+use Rattle.network.proofs.Numbers.{generator-next, generator-fits}
 
 pub kind-next : (ws : List ℕ) (kind i : ℕ) → kindBefore ws kind (suc i) ≡ cond (eqb (kindOf (getD ws i 0)) kind) (suc (kindBefore ws kind i)) (kindBefore ws kind i)
 unfolding kindBefore tally loop

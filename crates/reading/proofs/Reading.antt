@@ -14,7 +14,7 @@ use Rattle.float.specs.Doubles.{Doubles}
 use Rattle.nl.specs.Expr.{count}
 use Rattle.nl.specs.File.{modelWords, modelConstants, StandsFor}
 use Rattle.network.specs.Network.{columns}
-use Rattle.tables.proofs.Laid.{good}
+use Rattle.tables.proofs.Laid.{words-laid}
 use Rattle.acopf.specs.Rows.{rows}
 use Rattle.acopf.specs.Model.{model, fileWords}
 use Rattle.acopf.specs.Factor.{constants64, networkFault}
@@ -36,7 +36,7 @@ module _ (ws : List ℕ) (xs : List Float) where
   -- expressions nest at most 8 deep follows from the network's limits.
   pub written-stands : networkFault ws xs ≡ clear → StandsFor (fileWords ws xs) (modelConstants (model ws xs)) (columns ws) (model ws xs)
   unfolding fileWords
-  written-stands accepted = stands ws xs (good ws xs (tables-clear ws xs accepted))
+  written-stands accepted = stands ws xs (words-laid ws xs (tables-clear ws xs accepted))
 
   -- They are read as that model and as no other, and the finder, told the numbers of constants and columns, answers its rows.
   pub written-reads : networkFault ws xs ≡ clear → ReadsAs (fileWords ws xs) (modelConstants (model ws xs)) (length (constants64 ws xs)) (columns ws) (length (rows ws xs)) ws xs

@@ -13,7 +13,7 @@ use Rattle.float.specs.Number.{_⊗_, half64, one64}
 use Rattle.nl.specs.Expr.{loadLimit, Expr, column, shared, count, constantsOf}
 use Rattle.nl.specs.File.{Model, atRows, atObjective, modelWords, modelConstants, StandsFor}
 use Rattle.network.specs.Network.{buses, generators, branches, references, costs, busOf, from, to, angled, curveAt, segments, curved, epigraphsBefore, columns, vmColumn, pgColumn, qgColumn, epigraphColumn, costQ, costC}
-use Rattle.network.proofs.Good.{Good}
+use Rattle.network.specs.Layout.{layoutOf, LaidWords}
 use Rattle.piecewise_cost.specs.Curve.{slope}
 use Rattle.acopf.specs.Build.{literal, scaled, square, sum}
 use Rattle.acopf.specs.Parts.{vmSquared, branchPart, branchParts, sharedParts, pFromPart, pToPart, qFromPart, qToPart}
@@ -22,7 +22,7 @@ use Rattle.acopf.specs.Model.{costTerm, objective, model}
 use Rattle.acopf.proofs.Counts.{length-shared, model-shared}
 use Rattle.reading.proofs.Sized.{Sized, sized-constant, sized-column, sized-shared, sized-none, sized-more, sized-over, sized-within, sized-two, sized-one, sized-scaled, sized-sum, summed, few-constants, ruled, parts-ruled}
 
-module _ (ws : List ℕ) (xs : List Float) (G : Good ws xs) where
+module _ (ws : List ℕ) (xs : List Float) (G : LaidWords ws (layoutOf ws)) where
   -- ---- the columns that the model names are there
 
   epigraphs-few : epigraphsBefore ws (generators ws) ≤ generators ws

@@ -14,9 +14,8 @@ use Rattle.network.specs.Fault.{faultCount, wordsFault, formFault}
 use Rattle.tables.specs.Fault.{faultBlank, faultCurve, faultShift, faultBounds, faultBranches, faultTables}
 use Rattle.network.specs.declared.layout.Layout.{Layout}
 use Rattle.network.specs.declared.formed.Form.{Form}
-use Rattle.network.specs.Layout.{layoutOf, Laid, Formed}
-use Rattle.network.proofs.Good.{Good, good-shape}
-use Rattle.network.proofs.Form.{laid-form, formed-clear}
+use Rattle.network.specs.Layout.{layoutOf, LaidWords, Laid, Formed}
+use Rattle.network.proofs.Form.{laid-words, laid-form, formed-clear}
 
 or-assoc : (f g h : Fault) → orElse (orElse f g) h ≡ orElse f (orElse g h)
 unfolding orElse
@@ -32,12 +31,9 @@ unfolding faultTables formFault wordsFault faultCount
 tables-form ws xs = sym (or-assoc _ _ _ ∙ or-assoc _ _ _)
 
 module _ (ws : List ℕ) (xs : List Float) where
-  pub good : Clear (faultTables ws xs) → Good ws xs
+  pub words-laid : Clear (faultTables ws xs) → LaidWords ws (layoutOf ws)
   unfolding faultTables
-  good h =
-      let h1 = or-right _ _ h in
-      let h2 = or-right _ _ h1 in
-      good-shape ws xs (or-left _ _ h) (or-left _ _ h1) (or-left _ _ h2)
+  words-laid h = laid-words ws (or-left _ _ h) (or-left _ _ (or-right _ _ h)) refl
 
   pub laid : Clear (faultTables ws xs) → Doubles xs → {l : Layout} → l ≡ layoutOf ws → Laid ws xs l
   unfolding faultTables

@@ -9,7 +9,7 @@ use Rattle.network.specs.Fault.{faultSize}
 use Rattle.network.specs.Word.{generatorPoints}
 use Rattle.network.specs.Network.{buses, generators, generatorAt}
 use Rattle.network.proofs.Places.{words-length, limits}
-use Rattle.network.proofs.Good.{generator-zero, generator-high}
+use Rattle.network.proofs.Numbers.{generator-zero, generator-high}
 use Rattle.network.proofs.Steps.{generator-turn, generator-room}
 use Rattle.network.proofs.layout.generators_end.Statement.{statement}
 use Rattle.network.proofs.layout.generators_end.Tie as tie
@@ -19,7 +19,7 @@ room : (ws : List ℕ) (n k g at p : ℕ) → n ≡ buses ws → k ≡ generator
     → p ≡ generatorPoints (getD ws (1 + n + g) 0) → g < k → at + 9 + 2 * p ≤ 12544
 room ws n k g at p e f s a q h =
     let l = limits ws s in
-    omega (arith, generator-room ws n g at p e a q k h, generator-high ws l k (omega arith), l .few-buses, l .few-generators)
+    omega (arith, generator-room ws n g at p e a q k h, generator-high ws (l .5) k (omega arith), l .1, l .2)
 
 abbrev Inv-loop : tie.InvT-loop
 Inv-loop words n k at₀ g₀ at g = (g ≤ k) × (at ≡ generatorAt words g)
@@ -28,19 +28,19 @@ abbrev μ-loop : tie.MeasureT-loop
 μ-loop words n k at₀ g₀ at g = k - g
 
 mul-at : tie.Need-mul-at Inv-loop μ-loop
-mul-at c = omega (arith, limits _ (c .before .pre .3) .few-buses, c .before .pre .0)
+mul-at c = omega (arith, limits _ (c .before .pre .3) .1, c .before .pre .0)
 
 loop-holds : tie.Need-loop-holds Inv-loop μ-loop
 loop-holds c = (omega arith, rw (c .before .pre .0) (sym (generator-zero _)))
 
 add-generator-points : tie.Need-add-generator-points Inv-loop μ-loop
-add-generator-points c = omega (arith, limits _ (c .before .before .before .pre .3) .few-buses, c .before .before .before .pre .0)
+add-generator-points c = omega (arith, limits _ (c .before .before .before .pre .3) .1, c .before .before .before .pre .0)
 
 add-generator-points-2 : tie.Need-add-generator-points-2 Inv-loop μ-loop
-add-generator-points-2 c = omega (arith, limits _ (c .before .before .before .pre .3) .few-buses, limits _ (c .before .before .before .pre .3) .few-generators, c .before .before .before .pre .0, c .before .before .before .pre .1)
+add-generator-points-2 c = omega (arith, limits _ (c .before .before .before .pre .3) .1, limits _ (c .before .before .before .pre .3) .2, c .before .before .before .pre .0, c .before .before .before .pre .1)
 
 mul-generator-points : tie.Need-mul-generator-points Inv-loop μ-loop
-mul-generator-points c = omega (arith, limits _ (c .before .before .before .pre .3) .few-buses, limits _ (c .before .before .before .pre .3) .few-generators, c .before .before .before .pre .0, c .before .before .before .pre .1)
+mul-generator-points c = omega (arith, limits _ (c .before .before .before .pre .3) .1, limits _ (c .before .before .before .pre .3) .2, c .before .before .before .pre .0, c .before .before .before .pre .1)
 
 shared-slice-read-generator-points : tie.Need-shared-slice-read-generator-points Inv-loop μ-loop
 shared-slice-read-generator-points c = omega (arith, words-length _ (c .before .before .before .before .pre .2), c .before .before .before .before .pre .0, c .before .before .before .before .pre .1)

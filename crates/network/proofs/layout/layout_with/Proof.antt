@@ -16,7 +16,7 @@ header-costs-requires c κs = search needs
 layout-from-requires : tie.Need-layout-from-requires
 layout-from-requires c κs =
     let pre = c .before .before .before .before .pre in
-    let L = limits _ (pre .5) in (omega (arith, L .few-buses, pre .0), omega (arith, L .few-generators, pre .1), omega (arith, L .few-branches, pre .2))
+    let L = limits _ (pre .5) in (omega (arith, L .1, pre .0), omega (arith, L .2, pre .1), omega (arith, L .3, pre .2))
 
 returns : tie.Need-returns
 returns c =
