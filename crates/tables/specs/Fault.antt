@@ -23,7 +23,8 @@ module _ (ws : List ℕ) (xs : List Float) where
   unfoldable pub faultBlank : Fault
   faultBlank =
       orElse (first (buses ws) (λ i. blanks xs (busAt ws i) 4))
-      (orElse (first (generators ws) (λ g. orElse (blanks xs (generatorAt ws g + 4) 3) (blanks xs (curveAt ws g) (pointNumbers * points ws g))))
+      (orElse (first (generators ws) (λ g.
+      orElse (blanks xs (generatorAt ws g + 4) 3) (blanks xs (curveAt ws g) (pointNumbers * points ws g))))
       (first (branches ws) (λ b. blanks xs (branchAt ws b) 8)))
 
   -- 5 curve: a power not above the one before
