@@ -19,9 +19,10 @@ use Rattle.float.proofs.Finite.{finite-append}
 use Rattle.float.specs.Number.{isFinite, AllFinite, maximum, _⊖_, zero64}
 use Rattle.bounds.specs.Bounds.{positiveViolation}
 use Rattle.network.specs.Network.{buses, generators, branches, references, columns}
-use Rattle.acopf.specs.Factor.{firstNonFinite, networkFault}
+use Rattle.lists.specs.Finite.{firstNonFinite}
+use Rattle.acopf.specs.Factor.{networkFault}
 use Rattle.acopf.proofs.Order.{network-proper}
-use Rattle.acopf.proofs.Finite.{non-finite-clear}
+use Rattle.lists.proofs.NonFinite.{non-finite-clear}
 use Rattle.accepted.proofs.Largest.{largest-law, largestWhere-law}
 use Rattle.accepted.specs.Accepted.{NotAbove, Accepted}
 use Rattle.validate.specs.declared.Checked.{Checked}

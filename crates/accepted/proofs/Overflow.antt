@@ -16,8 +16,8 @@ use Rattle.base.specs.declared.Fault.{Fault}
 use Rattle.float.specs.Number.{isFinite, absolute}
 use Rattle.float.proofs.Really.{Number}
 use Rattle.network.specs.Network.{buses, columns}
-use Rattle.acopf.specs.Factor.{firstNonFinite}
-use Rattle.acopf.proofs.Finite.{non-finite-clear}
+use Rattle.lists.specs.Finite.{firstNonFinite}
+use Rattle.lists.proofs.NonFinite.{non-finite-clear}
 use Rattle.derived.specs.Outputs.{pInjection, qInjection, flows, pFrom, qFrom, pTo, qTo, outputs}
 use Rattle.derived.proofs.Outputs.{outputs-at}
 use Rattle.residuals.specs.Residuals.{pBalance, qBalance, activeBalance, reactiveBalance, residuals}

@@ -1,7 +1,7 @@
 -- A refusal of 1 to 11 is the first, and 11 looks at constants, objective constant and starts, in this order.
 use mathlib.Core.Path.{_≡_, refl}
 use mathlib.Core.List.{List, [], _∷_, _++_}
-use Prim.Native.Nat.{ℕ, suc, _+_, _-_, _<_}
+use Prim.Native.Nat.{ℕ, suc, _+_, _<_}
 use native.Mathlib.Omega.{arith}
 use native.Mathlib.Nat.{add-zero}
 use lib.ListN.{length, getD, List·getD-append}
@@ -9,23 +9,16 @@ use lib.Seq.{getD-append-add}
 use lib.Ieee.{Float, nan}
 use Rattle.base.specs.Fault.{orElse, section}
 use Rattle.base.specs.Order.{IsFirst}
-use Rattle.base.proofs.Firsts.{Clear, Spans, Proper, or-proper, unless-proper, first-proper, spans-unless, spans-first, FirstFail, first-fails}
+use Rattle.base.proofs.Firsts.{Clear, Spans, Proper, or-proper, unless-proper, first-proper, FirstFail}
 use Rattle.base.proofs.Order.{AllGive, gives-one, give-append, first-append, refusal-is-first}
 use Rattle.float.specs.Number.{isFinite}
+use Rattle.lists.specs.Finite.{firstNonFinite}
+use Rattle.lists.proofs.NonFinite.{non-finite-spans, non-finite-place}
 use Rattle.tables.specs.Fault.{tableSections, faultTables}
 use Rattle.tables.proofs.Order.{tables-give}
 use Rattle.acopf.specs.Columns.{columnStart}
-use Rattle.acopf.specs.Factor.{firstNonFinite, constants64, faultFactor, networkSections, networkFault}
+use Rattle.acopf.specs.Factor.{constants64, faultFactor, networkSections, networkFault}
 use Rattle.acopf.specs.Model.{objectiveConstant}
-
-pub non-finite-spans : (number : ℕ) (l : List Float) → Spans number number (firstNonFinite number l)
-unfolding firstNonFinite
-non-finite-spans number l = spans-first _ (λ i. spans-unless _ number _ (omega arith) (omega arith))
-
--- the first that is not finite, at its index
-pub non-finite-place : (number : ℕ) (l : List Float) → 0 < number → (Clear (firstNonFinite number l) → ⊥) → FirstFail (length l) (λ i. isFinite (getD l i nan)) number (λ i. i) (firstNonFinite number l)
-unfolding firstNonFinite
-non-finite-place number l h c = first-fails (length l) (λ i. isFinite (getD l i nan)) number (λ i. i) h c
 
 module _ (ws : List ℕ) (xs : List Float) where
   -- what 11 looks at: the constants by their numbers, then at the number of constants the objective constant, then at that + 1 + column the starts

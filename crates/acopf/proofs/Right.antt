@@ -26,7 +26,8 @@ use Rattle.acopf.specs.Factor.{constants64, faultFactor, networkFault}
 use Rattle.acopf.specs.Model.{objective, objectiveConstant, model}
 use Rattle.acopf.specs.Parts.{sharedParts}
 use Rattle.acopf.specs.Rows.{Row, pBalanceRow, qBalanceRow, referenceRow, angleRow, thermalRows, segmentRow, segmentRows, rows}
-use Rattle.acopf.proofs.Finite.{non-finite-clear, zero-finite, huge-finite, low-finite, bound-finite}
+use Rattle.lists.proofs.NonFinite.{non-finite-clear}
+use Rattle.acopf.proofs.Finite.{zero-finite, huge-finite, low-finite, bound-finite}
 use Rattle.acopf.proofs.Order.{network-is}
 
 -- ---- the columns' bounds

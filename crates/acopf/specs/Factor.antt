@@ -2,20 +2,15 @@
 -- and the first refusal of a network, 1 to 11.
 use Prim.Native.Nat.{ℕ}
 use mathlib.Core.List.{List, [], _∷_, _++_, map}
-use lib.ListN.{length, getD}
-use lib.Ieee.{Float, nan, binary64, ofBits}
+use lib.Ieee.{Float, binary64, ofBits}
 use Rattle.base.specs.declared.Fault.{Fault}
-use Rattle.base.specs.Fault.{fault, unless, first, Section, section, firstOf}
+use Rattle.base.specs.Fault.{Section, section, firstOf}
 use Rattle.base.specs.Refusal.{FACTOR}
-use Rattle.float.specs.Number.{isFinite}
+use Rattle.lists.specs.Finite.{firstNonFinite}
 use Rattle.nl.specs.File.{modelConstants}
 use Rattle.tables.specs.Fault.{tableSections}
 use Rattle.acopf.specs.Columns.{columnStart}
 use Rattle.acopf.specs.Model.{objectiveConstant, model}
-
--- the first that is not finite; its index is the place
-unfoldable pub firstNonFinite : ℕ → List Float → Fault
-firstNonFinite number xs = first (length xs) (λ i. unless (isFinite (getD xs i nan)) (fault number i))
 
 module _ (ws : List ℕ) (xs : List Float) where
   -- the model's constants as numbers, "each occurrence .. a new constant"

@@ -28,7 +28,8 @@ use Rattle.acopf.specs.Columns.{vmLower, vmUpper, pgLower, pgUpper, qgLower, qg
 use Rattle.acopf.specs.Parts.{branchParts, sharedParts}
 use Rattle.acopf.specs.Rows.{balanceRow, pBalanceRow, qBalanceRow, thermalRows, segmentRow, segmentRows, rows, rowLower, rowUpper}
 use Rattle.acopf.specs.Model.{costTerm, objective, objectiveConstant, model, fileWords}
-use Rattle.acopf.specs.Factor.{firstNonFinite, constants64, faultFactor, networkFault}
+use Rattle.lists.specs.Finite.{firstNonFinite}
+use Rattle.acopf.specs.Factor.{constants64, faultFactor, networkFault}
 use Rattle.compile.specs.Compile.{lengths, faultShort, compileFault, refused, accepted, compiled}
 use Rattle.derived.specs.Outputs.{injected, withdrawn, pInjection, qInjection, cost, ownObjective, flows, outputs}
 use Rattle.residuals.specs.Residuals.{largest, largestWhere, pBalance, qBalance, activeBalance, reactiveBalance, thermalLimits, variableBounds, referenceAngles, angleLimits, epigraphs, objectiveDifference, residuals}

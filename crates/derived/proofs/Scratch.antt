@@ -10,7 +10,7 @@ use native.Mathlib.Omega.{arith}
 use lib.Dec.{eqb}
 use lib.Ieee.{Float, nan}
 use lib.ListN.{length, getD, set, take, drop, length-set, List·getD-append}
-use lib.Seq.{lt-length-set, getD-set-same, getD-set-other, getD-take, take-suc, paste-suc, length-take-le}
+use lib.Seq.{lt-length-set, getD-set-same, getD-set-other, getD-take, take-suc, length-take-le}
 use borrow.Author.Tests.{eqb-true, eqb-false}
 use borrow.Author.Count.{below-more}
 use Rattle.base.specs.Loop.{loop, table}
@@ -209,14 +209,6 @@ flows-kept {fs} {n} {m} K F =
     }
 
 -- ---- the front of a list
-
-pub copy-next : (s d : List Float) (i : ℕ) → i < length s → i < length d
-    → set (take i s ++ drop i d) i (getD s i nan) ≡ take (i + 1) s ++ drop (i + 1) d
-copy-next s d i h k =
-    let q : 0 + i < length d = omega arith in
-    let e : 0 + i ≡ i = omega arith in
-    let f : 0 + suc i ≡ suc i = omega arith in
-    rw add-one (rw (e, f) at (paste-suc d 0 s i nan q h))
 
 -- what is copied can be read there
 pub copied : (s d : List Float) (count : ℕ) → count ≤ length s → (j : ℕ) → j < count → getD (take count s ++ drop count d) j nan ≡ getD s j nan

@@ -1,31 +1,14 @@
 // Refusal 15, derived: the first output that is not finite, then the solver's objective, then the check's own.
 use base::Fault;
 use base::refusal;
+use lists::first_non_finite;
 ghost use mathlib.Core.Path.{_≡_};
 ghost use mathlib.Core.List.{[], _∷_, _++_};
-ghost use Prim.Native.Nat.{_+_, _<_, _≤_};
+ghost use Prim.Native.Nat.{_≤_};
 ghost use lib.ListN.{length, take};
 ghost use Rattle.base.specs.Refusal.{DERIVED};
-ghost use Rattle.acopf.specs.Factor.{firstNonFinite};
-ghost use Rattle.derived.specs.contracts.Scratch.{mostOutputs, nonFiniteFrom};
-
-// The first of the list's first `count` numbers that is not finite; its place is counted from `from` on.
-pub fn first_non_finite(list: &[f64], count: usize, number: u32, from: usize) -> Fault
-    requires { ⌜ (count ≤ length (now list)) × (0 < number) × (from + count < 0xffff_ffff_ffff_ffff) ⌝ }
-    ensures { λ r. ⌜ r ≡ nonFiniteFrom number from (take count (now (list .entry))) ⌝ }
-{
-    let mut i = 0usize;
-    while i < count {
-        if !float::is_finite(list[i]) {
-            return Fault {
-                number,
-                place: from + i,
-            };
-        }
-        i += 1;
-    }
-    refusal::CLEAR
-}
+ghost use Rattle.lists.specs.Finite.{firstNonFinite};
+ghost use Rattle.derived.specs.contracts.Scratch.{mostOutputs};
 
 // 15 of the outputs, the list's first `count` numbers, then of the two objectives.
 pub fn derived_fault(list: &[f64], count: usize, solver: f64, own: f64) -> Fault

@@ -3,15 +3,12 @@ mod bus;
 mod fill;
 mod finite;
 mod flow;
-mod write;
 
 pub use bus::balances;
 pub use fill::fill_outputs;
 pub use finite::derived_fault;
-pub use finite::first_non_finite;
 use network::MOST_BRANCHES;
 use network::MOST_BUSES;
-pub use write::copy_front;
 
 // Two numbers for each bus, and four for each branch.
 pub const MOST_PER_BUS: usize = 2 * MOST_BUSES;

@@ -26,7 +26,8 @@ use Rattle.tables.proofs.Right.{lower-right, upper-right, words-clear, vm-right
 use Rattle.acopf.specs.Build.{square, terms}
 use Rattle.acopf.specs.Columns.{vmLower, vmUpper, pgLower, pgUpper, qgLower, qgUpper, vaStart, vmStart, pgStart, qgStart, epigraphStart, columnStart}
 use Rattle.piecewise_cost.specs.Curve.{slope, intercept}
-use Rattle.acopf.specs.Factor.{firstNonFinite, constants64, faultFactor}
+use Rattle.lists.specs.Finite.{firstNonFinite}
+use Rattle.acopf.specs.Factor.{constants64, faultFactor}
 use Rattle.pi_model.specs.Flow.{coefficientsOf, coefficients}
 use Rattle.acopf.specs.Model.{objective, objectiveConstant, model}
 use Rattle.acopf.specs.Tallies.{rowSegments, segmentsBefore}

@@ -8,7 +8,7 @@ use crate::single::thermal_limits;
 use crate::variable::variable_bounds;
 use derived::MOST_PER_BUS;
 use derived::balances;
-use derived::copy_front;
+use lists::copy_front;
 use network::Layout;
 ghost use mathlib.Core.Path.{_≡_};
 ghost use Rattle.derived.specs.contracts.Agree.{Ready};

@@ -19,11 +19,12 @@ use Rattle.network.specs.declared.layout.Layout.{Layout}
 use Rattle.network.specs.Layout.{LaidWords, Laid}
 use Rattle.acopf.specs.declared.tallies.Tallies.{Tallies}
 use Rattle.acopf.specs.Tallies.{Tallied}
-use Rattle.acopf.specs.Factor.{networkSections, networkFault, firstNonFinite}
+use Rattle.lists.specs.Finite.{firstNonFinite}
+use Rattle.acopf.specs.Factor.{networkSections, networkFault}
 use Rattle.acopf.proofs.Order.{network-refusal}
 use Rattle.derived.specs.contracts.Agree.{Ready}
-use Rattle.derived.specs.contracts.Scratch.{nonFiniteFrom}
-use Rattle.derived.proofs.NonFinite.{non-finite-zero}
+use Rattle.lists.specs.contracts.From.{nonFiniteFrom}
+use Rattle.lists.proofs.NonFinite.{non-finite-zero}
 use Rattle.derived.proofs.Ready.{ready}
 use Rattle.validate.specs.declared.Checked.{Checked}
 use Rattle.validate.specs.Check.{outputsNeeded, faultOutput, faultPoint, checkFault, checked, outputsAfter}

@@ -13,8 +13,10 @@ use Rattle.base.specs.Fault.{fault, unless, orElse, firstOf}
 use Rattle.base.specs.Order.{IsFirst}
 use Rattle.base.proofs.Firsts.{Clear, Spans, spans-unless, spans-or, spans-first, or-go, FirstFail, first-fails, unless-clear}
 use Rattle.base.proofs.Order.{AllGive, gives-one, give-append, first-append, refusal-is-first}
-use Rattle.acopf.specs.Factor.{firstNonFinite, networkSections, networkFault}
-use Rattle.acopf.proofs.Order.{non-finite-spans, non-finite-place, network-give}
+use Rattle.lists.specs.Finite.{firstNonFinite}
+use Rattle.acopf.specs.Factor.{networkSections, networkFault}
+use Rattle.lists.proofs.NonFinite.{non-finite-spans, non-finite-place}
+use Rattle.acopf.proofs.Order.{network-give}
 use Rattle.float.specs.Number.{isFinite}
 use Rattle.bounds.specs.Bounds.{angleRight}
 use Rattle.network.specs.Network.{buses, branches, columns, vaColumn}

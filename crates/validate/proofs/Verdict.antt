@@ -15,7 +15,8 @@ use Rattle.float.specs.Number.{zero64}
 use Rattle.network.specs.Network.{buses, branches}
 use Rattle.network.specs.declared.layout.Layout.{Layout}
 use Rattle.network.specs.Layout.{Laid}
-use Rattle.acopf.specs.Factor.{firstNonFinite, networkFault}
+use Rattle.lists.specs.Finite.{firstNonFinite}
+use Rattle.acopf.specs.Factor.{networkFault}
 use Rattle.derived.specs.Outputs.{flows, outputs}
 use Rattle.derived.specs.contracts.Scratch.{Filled}
 use Rattle.derived.proofs.Scratch.{front-outputs}

@@ -11,7 +11,8 @@ use Rattle.base.specs.Refusal.{SHORT, POINT, SWING, DERIVED, RESIDUAL}
 use Rattle.float.specs.Number.{zero64}
 use Rattle.network.specs.Network.{buses, branches, columns, vaColumn}
 use Rattle.bounds.specs.Bounds.{angleRight}
-use Rattle.acopf.specs.Factor.{firstNonFinite, networkSections, networkFault}
+use Rattle.lists.specs.Finite.{firstNonFinite}
+use Rattle.acopf.specs.Factor.{networkSections, networkFault}
 use Rattle.validate.specs.declared.Checked.{Checked}
 use Rattle.derived.specs.Outputs.{va, flows, outputs, ownObjective}
 use Rattle.residuals.specs.Residuals.{residuals}

@@ -2,7 +2,7 @@
 use acopf::Tallies;
 use base::Fault;
 use base::refusal;
-use derived::first_non_finite;
+use lists::first_non_finite;
 use network::Layout;
 ghost use mathlib.Core.Path.{_≡_};
 ghost use mathlib.Core.List.{List};

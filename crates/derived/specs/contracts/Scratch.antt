@@ -1,11 +1,9 @@
 -- What the check's scratch holds: each bus's voltage in one list, and in another the outputs in their order.
 use mathlib.Core.List.{List}
 use Prim.Native.Nat.{ℕ, _+_, _*_, _≤_}
-use lib.ListN.{length, getD}
-use lib.Ieee.{Float, nan, neg}
-use Rattle.base.specs.declared.Fault.{Fault}
-use Rattle.base.specs.Fault.{fault, unless, first}
-use Rattle.float.specs.Number.{_⊕_, _⊖_, _⊗_, isFinite}
+use lib.ListN.{length}
+use lib.Ieee.{Float, neg}
+use Rattle.float.specs.Number.{_⊕_, _⊖_, _⊗_}
 use Rattle.network.specs.Limits.{mostBuses, mostBranches}
 use Rattle.network.specs.Network.{pD, qD, gS, bS}
 use Rattle.network.specs.declared.layout.Layout.{Layout}
@@ -45,7 +43,3 @@ pub record Filled (ws : List ℕ) (xs x : List Float) (l : Layout) (list : List 
   pub room : 2 * l .buses + 4 * l .branches ≤ length list
   pub injections-are : InjectionsAre ws xs x l list
   pub flows-are : FlowsAre (flows ws xs x) (l .buses) (l .branches) (l .branches) list
-
--- the first that is not finite, where the list's place 0 counts as place `from`
-unfoldable pub nonFiniteFrom : ℕ → ℕ → List Float → Fault
-nonFiniteFrom number from l = first (length l) (λ i. unless (isFinite (getD l i nan)) (fault number (from + i)))

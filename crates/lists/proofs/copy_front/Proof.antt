@@ -4,9 +4,9 @@ use mathlib.Core.Path.{_≡_, refl}
 use mathlib.Core.List.{_++_}
 use Prim.Native.Nat.{_-_, _≤_}
 use lib.ListN.{length, length-set, take, drop}
-use Rattle.derived.proofs.Scratch.{copy-next}
-use Rattle.derived.proofs.write.copy_front.Statement.{statement}
-use Rattle.derived.proofs.write.copy_front.Tie as tie
+use Rattle.lists.proofs.Copy.{copy-next}
+use Rattle.lists.proofs.copy_front.Statement.{statement}
+use Rattle.lists.proofs.copy_front.Tie as tie
 
 abbrev Inv-loop : tie.InvT-loop
 Inv-loop list count to₀ i₀ to i =

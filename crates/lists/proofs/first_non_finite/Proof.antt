@@ -9,9 +9,9 @@ use Rattle.base.proofs.Firsts.{Clear, unless-proper}
 use Rattle.base.proofs.Turns.{first-none, test-more, test-here, first-done}
 use Rattle.base.specs.Fault.{fault, unless, first}
 use Rattle.float.specs.Number.{isFinite}
-use Rattle.derived.proofs.NonFinite.{non-finite-front}
-use Rattle.derived.proofs.finite.first_non_finite.Statement.{statement}
-use Rattle.derived.proofs.finite.first_non_finite.Tie as tie
+use Rattle.lists.proofs.NonFinite.{non-finite-front}
+use Rattle.lists.proofs.first_non_finite.Statement.{statement}
+use Rattle.lists.proofs.first_non_finite.Tie as tie
 
 abbrev Inv-loop : tie.InvT-loop
 Inv-loop list count number from i₀ i = (i ≤ count) × Clear (first i (λ j. unless (isFinite (getD list j nan)) (fault number (from + j))))

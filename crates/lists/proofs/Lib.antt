@@ -1,0 +1,2 @@
+pub mod NonFinite
+pub mod Copy
