@@ -54,3 +54,6 @@ MODEL = 17
 
 abbrev pub ROW : ℕ
 ROW = 18
+
+abbrev pub VALUE : ℕ
+VALUE = 19

@@ -41,3 +41,5 @@ pub const RESIDUAL: u32 = 16;
 pub const MODEL: u32 = 17;
 
 pub const ROW: u32 = 18;
+
+pub const VALUE: u32 = 19;

@@ -91,7 +91,7 @@ pub prefix-free : (e e′ : Expr) (k k′ : ℕ) (xs : List ℕ) → HasWords k 
 prefix-free = no-proper-beginning
 
 -- a refusal with 17 has no part
-seventeen : (ws : List ℕ) (constants columns r p : ℕ) → find ws constants columns r .fault ≡ fault MODEL p → find ws constants columns r ≡ refused MODEL p
+pub seventeen : (ws : List ℕ) (constants columns r p : ℕ) → find ws constants columns r .fault ≡ fault MODEL p → find ws constants columns r ≡ refused MODEL p
 seventeen ws constants columns r p e = go (outcome ws constants columns r)
   where
     at-place : (p′ : ℕ) → find ws constants columns r ≡ refused MODEL p′ → find ws constants columns r ≡ refused MODEL p

@@ -41,7 +41,7 @@ count-le kind i k none = omega arith
 count-le kind i k (more e ts) = omega (arith, count-le kind (i + 1) (next k e) ts, length-append (words k e) (partWords kind (i + 1) (next k e) ts))
 
 -- all the parts of one kind
-all : (ws cs : List ℕ) (columns : ℕ) (named : ℕ → ℕ) (kind r at k : ℕ) (ts : Terms) (rest rest′ : List ℕ) → PartsRuled depthLimit columns named 0 k ts
+pub all : (ws cs : List ℕ) (columns : ℕ) (named : ℕ → ℕ) (kind r at k : ℕ) (ts : Terms) (rest rest′ : List ℕ) → PartsRuled depthLimit columns named 0 k ts
     → at ≤ length ws → drop at ws ≡ partWords kind 0 k ts ++ rest → drop k cs ≡ constantsOf ts ++ rest′ → Other kind rest
     → readParts ws (length cs) columns named kind r (length ws) 0 at k 0 0 ≡ Stop (count ts) (at + length (partWords kind 0 k ts)) (k + length (constantsOf ts)) (markIn startOf r 0 at k ts 0) (markIn endOf r 0 at k ts 0)
 all ws cs columns named kind r at k ts rest rest′ h l p q o =
@@ -49,7 +49,7 @@ all ws cs columns named kind r at k ts rest rest′ h l p q o =
     (omega (arith, count-le kind 0 k ts, length-drop at ws, ap length p, length-append (partWords kind 0 k ts) rest)) p q
     (λ lt. not-mark ws kind (0 + count ts) _ rest (drop-past at ws (partWords kind 0 k ts) rest p) o))
 
-end-complete : (ws cs : List ℕ) (columns shared at k : ℕ) (e : Expr) → Ruled depthLimit columns shared k e → drop at ws ≡ word 12 0 ∷ words k e ++ (word 13 0 ∷ []) → drop k cs ≡ constants e ++ [] → k ≤ length cs
+pub end-complete : (ws cs : List ℕ) (columns shared at k : ℕ) (e : Expr) → Ruled depthLimit columns shared k e → drop at ws ≡ word 12 0 ∷ words k e ++ (word 13 0 ∷ []) → drop k cs ≡ constants e ++ [] → k ≤ length cs
     → readEnd ws (length cs) columns shared at k ≡ Went (at + 1 + length (words k e) + 1) (next k e)
 unfolding readEnd readLast
 end-complete ws cs columns shared at k e h p q kl =
@@ -77,15 +77,15 @@ split-words kind i k (more e ps) us =
 abbrev pub rowsFrom : Model → ℕ
 rowsFrom M = length (partWords 10 0 0 (M .shared))
 
-abbrev pastRows : Model → List ℕ
+abbrev pub pastRows : Model → List ℕ
 pastRows M = word 12 0 ∷ words (atObjective M) (M .objective) ++ (word 13 0 ∷ [])
 
 module _ (ws cs : List ℕ) (columns : ℕ) (M : Model) (S : StandsFor ws cs columns M) where
-  rows-words : drop (rowsFrom M) ws ≡ partWords 11 0 (atRows M) (M .rows) ++ pastRows M
+  pub rows-words : drop (rowsFrom M) ws ≡ partWords 11 0 (atRows M) (M .rows) ++ pastRows M
   unfolding modelWords
   rows-words = drop-from ws (partWords 10 0 0 (M .shared)) _ (S .its-words)
 
-  rows-values : drop (atRows M) cs ≡ constantsOf (M .rows) ++ constants (M .objective)
+  pub rows-values : drop (atRows M) cs ≡ constantsOf (M .rows) ++ constants (M .objective)
   unfolding modelConstants
   rows-values = drop-from cs (constantsOf (M .shared)) _ (S .its-constants)
 

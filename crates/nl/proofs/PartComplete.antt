@@ -35,7 +35,7 @@ abbrev pub endOf : ℕ → ℕ → Expr → ℕ
 endOf at k e = at + 1 + length (words k e)
 
 module _ (f : ℕ → ℕ → Expr → ℕ) (kind r : ℕ) where
-  mark-past : (ts : Terms) (i at k v : ℕ) → r < i → markIn f r i at k ts v ≡ v
+  pub mark-past : (ts : Terms) (i at k v : ℕ) → r < i → markIn f r i at k ts v ≡ v
   mark-past none i at k v h = refl
   mark-past (more e ts) i at k v h =
       mark-past ts (i + 1) (at + 1 + length (words k e)) (next k e) (cond (eqb i r) (f at k e) v) (omega arith)

@@ -76,7 +76,7 @@ pub enum Head {
 }
 
 // Reads the one word at `at`, where k is the number of the next constant and the lowest `named` shared parts may be named.
-fn read_head(
+pub fn read_head(
     words: &[u32],
     at: usize,
     k: usize,
@@ -149,7 +149,7 @@ fn read_expr(
 }
 
 // Whether the word of that kind and load stands at `at`.
-fn is_mark(words: &[u32], kind: u32, load: usize, at: usize) -> bool
+pub fn is_mark(words: &[u32], kind: u32, load: usize, at: usize) -> bool
     ensures { λ ok. ⌜ ok ≡ isMark (now (words .entry)) kind load at ⌝ }
 {
     if words.len() <= at {
@@ -196,7 +196,7 @@ pub enum Parts {
 }
 
 // Reads the parts from `from` on that begin with words of that kind, numbered from 0.
-fn read_parts(
+pub fn read_parts(
     words: &[u32],
     from: usize,
     first: usize,
@@ -238,7 +238,7 @@ fn read_parts(
 }
 
 // Reads the end word: all constants are used, and no word follows.
-fn read_last(words: &[u32], at: usize, k: usize, constants: usize) -> Read
+pub fn read_last(words: &[u32], at: usize, k: usize, constants: usize) -> Read
     ensures { λ r. ⌜ r ≡ readLast (now (words .entry)) constants at k ⌝ }
 {
     if !is_mark(words, 13, 0, at) {
@@ -255,7 +255,7 @@ fn read_last(words: &[u32], at: usize, k: usize, constants: usize) -> Read
 }
 
 // Reads the objective and the end word.
-fn read_end(
+pub fn read_end(
     words: &[u32],
     at: usize,
     k: usize,

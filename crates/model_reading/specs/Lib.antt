@@ -1,0 +1,4 @@
+pub mod Parse
+pub mod Reading
+pub mod Place
+pub mod Counts

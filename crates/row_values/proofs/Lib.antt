@@ -1,0 +1,6 @@
+pub mod Passes
+pub mod Runs
+pub mod Files
+pub mod Refusals
+pub mod Copies
+pub mod Answers
