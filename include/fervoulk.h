@@ -1,10 +1,10 @@
 /*
- * Fervoulk's C boundary: compile, check and the finder, for a host in C, C++ or Rust.
+ * Fervoulk's C boundary: compile, check, the finder and row values, for a host in C, C++ or Rust.
  *
  * The functions stand in the archives that include/archives.txt lists, target/staticlib/libNAME.a for a NAME of the list (`rt staticlib
  * NAME`), for x86-64 Linux; each section below names its own. Link any of them, in any order; they need memcpy and memset of the C library
- * and nothing else. docs/FORMAT.md says what the files, the refusals and the check are, and works an example; "document 01" is the paper
- * behind it. The contracts are proved for the functions named here, as they stand in crates/NAME/src.
+ * and nothing else. docs/FORMAT.md says what the files, the refusals, the check and row values are, and works an example; "document 01" is
+ * the paper behind it. The contracts are proved for the functions named here, as they stand in crates/NAME/src.
  *
  * What the caller owes. Nothing proves a caller in C:
  *  - A list is a pointer and the number of its elements. The pointer is aligned for its type (4 bytes for words, 8 for doubles) and
@@ -17,8 +17,8 @@
  *
  * Beyond that any words, numbers and lengths may be handed in. Every call ends and answers, keeps no pointer and no state, and may run in
  * several threads at once. A list holds, after the call, either the finished result in its front part with the rest as it was, or,
- * after a refusal, exactly what it held before. The check takes some 34 KiB of stack and fervoulk_residuals about as much, compile 6 KiB, the
- * finder less than 4 KiB.
+ * after a refusal, exactly what it held before. Row values take some 90 KiB of stack, the check some 34 KiB and fervoulk_residuals about as
+ * much, compile 6 KiB, the finder and the two counts less than 4 KiB.
  */
 #ifndef FERVOULK_H
 #define FERVOULK_H
@@ -36,8 +36,9 @@ typedef char fervoulk_size_t_has_64_bits[sizeof(size_t) == 8 ? 1 : -1];
 /* ---- Refusals: a number and a place in one answer */
 
 /*
- * The refusals' numbers, each named by its word. What the place is stands beside it. Compile uses 1 to 12, the check 1 to
- * 16, the finder 17 and 18; the first fault decides, by number, but 8, 9 and 10 branch by branch.
+ * The refusals' numbers, each named by its word; 19 has none, and its name says what is refused. What the place is stands beside it.
+ * Compile uses 1 to 12, the check 1 to 16, the finder 17 and 18; the first fault decides, by number, but 8, 9 and 10 branch by branch.
+ * Row values use 17, 2, 12 and 13, in this order, then 14 and 19 part by part; fervoulk_row_values says what they are there.
  */
 enum fervoulk_refusal {
     FERVOULK_NONE = 0,      /* nothing is refused; the place is 0 */
@@ -54,14 +55,18 @@ enum fervoulk_refusal {
     FERVOULK_FACTOR = 11,   /* constant, objective constant or start not finite: its index in these, one after the other */
     FERVOULK_SHORT = 12,    /* a written list too short: its number, from 1 */
     FERVOULK_POINT = 13,    /* point of a wrong length: the number of columns; else its first column that is not finite */
-    FERVOULK_SWING = 14,    /* voltage angle outside -1,024 to 1,024: the column */
+    FERVOULK_SWING = 14,    /* voltage angle outside -1,024 to 1,024: the column; in row values an argument: its part's beginning word */
     FERVOULK_DERIVED = 15,  /* output not finite: its index; 2n + 4m for the solver's objective, 2n + 4m + 1 for the check's own */
     FERVOULK_RESIDUAL = 16, /* a residual above its tolerance: the first, from 1 */
     FERVOULK_MODEL = 17,    /* model words wrong: the first wrong word, the length where they run out, the end word with constants left */
-    FERVOULK_ROW = 18       /* no such row: the number of rows */
+    FERVOULK_ROW = 18,      /* no such row: the number of rows */
+    FERVOULK_VALUE = 19     /* value of a shared part, row or the objective not finite: the beginning word of that part of the file */
 };
 
-/* From an answer of fervoulk_compile, fervoulk_check, fervoulk_residuals or fervoulk_find_row: the number, 0 where nothing is refused. */
+/*
+ * From an answer of fervoulk_compile, fervoulk_check, fervoulk_residuals, fervoulk_find_row or fervoulk_row_values: the number, 0 where
+ * nothing is refused.
+ */
 static inline uint32_t fervoulk_number(uint64_t answer) {
     return (uint32_t)(answer >> 32);
 }
@@ -73,7 +78,7 @@ static inline uint32_t fervoulk_place(uint64_t answer) {
 
 #define FERVOULK_PLACE_MAX UINT32_MAX
 
-/* The word for a refusal's number; an empty string for a number that is no refusal's, 0 among them. */
+/* The word for a refusal's number; an empty string for 19, which has no word, and for a number that is no refusal's, 0 among them. */
 static inline const char *fervoulk_word(uint32_t number) {
     static const char *const words[] = {
         "", "words", "size", "count", "blank", "curve", "shift", "bounds", "spread", "rating",
@@ -214,6 +219,53 @@ uint32_t fervoulk_same(
     const double *constants_a, size_t constants_a_length,
     const uint32_t *words_b, size_t words_b_length,
     const double *constants_b, size_t constants_b_length);
+
+/* ---- Row values: a model file worked out at a point (librow_values.a) */
+
+/*
+ * Works out every shared part, row and the objective of the model file of `words`, `constants` and so many `columns`, whoever wrote it, at
+ * `point`, a value for each column. Answers number and place, 0 or the first of these:
+ *   17      the file does not pass reading: the finder's place
+ *   2       more than 4,352 shared parts: the beginning word of shared part 4,352
+ *   12      a list shorter than its count: 1 for `shared`, 2 for `rows`
+ *   13      `point` not of length `columns`, longer ones too: `columns`; else its first number that is not finite
+ *   14, 19  part by part in file order, and 14 first within one: an argument of a sine or cosine not finite or outside -4,096 to 4,096; the
+ *           part's value not finite. The place is the part's beginning word, of kind 10, 11 or, for the objective, 12
+ *
+ * Where the number is 0, `shared` holds in front the fervoulk_shared_count shared parts' values, `rows` the fervoulk_row_count rows'
+ * values, all finite, and the rest is as it was. Where it is not 0, all of both is as it was. The other three lists are never written.
+ *
+ * Sine and cosine are fdlibm's, a square is the operand times itself, a sum runs left to right from its first term: every bit is defined.
+ * A file that fervoulk_compile wrote is never refused with 17 or 2, nor with 14 where every va of the point is within -1,024 to 1,024.
+ */
+uint64_t fervoulk_row_values(
+    const uint32_t *words, size_t words_length,
+    const double *constants, size_t constants_length,
+    size_t columns,
+    const double *point, size_t point_length,
+    double *shared, size_t shared_length,
+    double *rows, size_t rows_length);
+
+/*
+ * The same once more, on the same lists: answers the objective's value, without the objective constant (which is no part of the file), +0
+ * where fervoulk_row_values refuses. Leaves both lists as it does.
+ */
+double fervoulk_row_values_objective(
+    const uint32_t *words, size_t words_length,
+    const double *constants, size_t constants_length,
+    size_t columns,
+    const double *point, size_t point_length,
+    double *shared, size_t shared_length,
+    double *rows, size_t rows_length);
+
+/*
+ * How many shared parts the model file of `words`, so many `constants` and so many `columns` has, for a list that is just long enough and
+ * never refusal 12. It is 0 where 17 or 2 refuses the file, and also where there are none. It writes nothing.
+ */
+size_t fervoulk_shared_count(const uint32_t *words, size_t words_length, size_t constants, size_t columns);
+
+/* How many rows, likewise. */
+size_t fervoulk_row_count(const uint32_t *words, size_t words_length, size_t constants, size_t columns);
 
 #ifdef __cplusplus
 }

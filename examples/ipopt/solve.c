@@ -3,7 +3,8 @@
  * hands the point to the check; an accepted point is printed, a column a line. docs/SOLVER.md says why the options are as they are; further
  * ones, or others for these, are arguments. Ends with 0 exactly where the point is accepted, optimal or not.
  *
- * First derivatives are taken from the model file's words, second ones are left to Ipopt's quasi-Newton updates.
+ * The values of rows and objective are the port's (fervoulk_row_values). First derivatives are taken from the model file's words, second
+ * ones are left to Ipopt's quasi-Newton updates.
  */
 #include <math.h>
 #include <stdio.h>
@@ -20,8 +21,11 @@ enum kind { CONSTANT, COLUMN, SHARED, ADD, SUBTRACT, MULTIPLY, SQUARE, COSINE, S
 struct model {
     uint32_t *words;
     double *constants;
-    size_t columns, rows, shared;
+    size_t words_length, constants_length, columns, rows, shared;
     double constant;         /* the objective constant */
+    double *point;           /* where the port worked out the next four; NULL before the first time */
+    uint64_t answer;
+    double *shared_value, *row_value, objective_value;
     size_t *part;            /* the expressions of the shared parts, then of the rows, then the objective */
     size_t *behind;          /* for each expression, the first word behind it */
     double *value, *slope;   /* for each expression, its value and the part's derivative by it */
@@ -47,6 +51,25 @@ static size_t operands(uint32_t word) {
     default: return load_of(word);
     }
 }
+
+/*
+ * Every shared part, row and the objective at x, by the port; once for a point, whichever of Ipopt's functions asks first. Answers whether
+ * there are values: where 14 or 19 refuses a trial point, Ipopt takes a shorter step.
+ */
+static Bool work_out(struct model *m, const double *x) {
+    size_t size = m->columns * sizeof *x;
+    if (m->point != NULL && memcmp(m->point, x, size) == 0) return m->answer == 0;
+    if (m->point == NULL) m->point = list(m->columns, sizeof *m->point);
+    memcpy(m->point, x, size);
+    m->answer = fervoulk_row_values(m->words, m->words_length, m->constants, m->constants_length, m->columns, x, m->columns,
+                                    m->shared_value, m->shared, m->row_value, m->rows);
+    if (m->answer != 0) return 0;
+    m->objective_value = fervoulk_row_values_objective(m->words, m->words_length, m->constants, m->constants_length, m->columns, x,
+                                                       m->columns, m->shared_value, m->shared, m->row_value, m->rows);
+    return 1;
+}
+
+/* ---- Derivatives, for which the value of each word is needed and not of each part alone */
 
 /* An operator's operands stand behind it, so that a part is evaluated from its last word to its first. */
 static void evaluate_part(struct model *m, size_t first, const double *x) {
@@ -121,8 +144,10 @@ static void reach(struct model *m, size_t part) {
 }
 
 /* Finds parts, ends of expressions and each row's columns in the words that compile wrote. */
-static void prepare(struct model *m, size_t length) {
-    size_t parts = m->shared + m->rows + 1, p = 0;
+static void prepare(struct model *m) {
+    size_t length = m->words_length, parts = m->shared + m->rows + 1, p = 0;
+    m->shared_value = list(m->shared, sizeof *m->shared_value);
+    m->row_value = list(m->rows, sizeof *m->row_value);
     m->part = list(parts, sizeof *m->part);
     m->behind = list(length, sizeof *m->behind);
     m->value = list(length, sizeof *m->value);
@@ -153,8 +178,8 @@ static void prepare(struct model *m, size_t length) {
 static Bool objective(Index n, Number *x, Bool new_x, Number *value, UserDataPtr model) {
     struct model *m = model;
     (void)n, (void)new_x;
-    evaluate(m, x);
-    *value = m->value[m->part[m->shared + m->rows]] + m->constant;
+    if (!work_out(m, x)) return 0;
+    *value = m->objective_value + m->constant;
     return 1;
 }
 
@@ -170,8 +195,8 @@ static Bool objective_gradient(Index n, Number *x, Bool new_x, Number *gradient,
 static Bool rows(Index n, Number *x, Bool new_x, Index count, Number *values, UserDataPtr model) {
     struct model *m = model;
     (void)n, (void)new_x;
-    evaluate(m, x);
-    for (Index r = 0; r < count; r++) values[r] = m->value[m->part[m->shared + (size_t)r]];
+    if (!work_out(m, x)) return 0;
+    memcpy(values, m->row_value, (size_t)count * sizeof *values);
     return 1;
 }
 
@@ -245,18 +270,19 @@ int main(int count, char **arguments) {
     read_list(numbers, sizeof *numbers, nx);
     if (getchar() != EOF) return wrong("no network file", "more than its counts need");
 
-    size_t length = fervoulk_words(words, nw, numbers, nx), constants = fervoulk_constants(words, nw, numbers, nx);
     struct model m = {.columns = fervoulk_columns(words, nw, numbers, nx), .rows = fervoulk_rows(words, nw, numbers, nx)};
+    m.words_length = fervoulk_words(words, nw, numbers, nx);
+    m.constants_length = fervoulk_constants(words, nw, numbers, nx);
     m.shared = fervoulk_shared(words, nw, numbers, nx);
     m.constant = fervoulk_objective_constant(words, nw, numbers, nx);
-    m.words = list(length, sizeof *m.words);
-    m.constants = list(constants, sizeof *m.constants);
+    m.words = list(m.words_length, sizeof *m.words);
+    m.constants = list(m.constants_length, sizeof *m.constants);
     double *lower = list(m.columns, sizeof *lower), *upper = list(m.columns, sizeof *upper), *x = list(m.columns, sizeof *x);
     double *row_lower = list(m.rows, sizeof *row_lower), *row_upper = list(m.rows, sizeof *row_upper);
-    uint64_t answer = fervoulk_compile(words, nw, numbers, nx, m.words, length, m.constants, constants, lower, m.columns, upper, m.columns,
-                                    x, m.columns, row_lower, m.rows, row_upper, m.rows);
+    uint64_t answer = fervoulk_compile(words, nw, numbers, nx, m.words, m.words_length, m.constants, m.constants_length, lower, m.columns,
+                                       upper, m.columns, x, m.columns, row_lower, m.rows, row_upper, m.rows);
     if (answer != 0) return refused("compile", answer);
-    prepare(&m, length);
+    prepare(&m);
 
     IpoptProblem problem = CreateIpoptProblem((Index)m.columns, lower, upper, (Index)m.rows, row_lower, row_upper, m.row_first[m.rows], 0,
                                               0, objective, rows, objective_gradient, row_gradients, no_hessian);

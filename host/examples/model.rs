@@ -1,5 +1,6 @@
 //! Reads a packed network file (examples/pack) from standard input, compiles it and shows the model file: counts, columns with bounds and
-//! starts, shared parts, rows with bounds, and the objective. A refusal is shown as its number, word and place.
+//! starts, shared parts, rows with bounds, and the objective; then the values of these parts at the start. A refusal is shown as its number,
+//! word and place.
 //!
 //! Columns are va, vm, pg, qg and cost, each numbered from 0, and s[k] is shared part k. A number is the shortest decimal that gives the
 //! same bits when it is read. An operand that is itself of the form a + b, a - b or a * b stands in parentheses, and ^2 binds tightest, so
@@ -8,7 +9,7 @@
 use std::io::{self, Read, Write};
 use std::process::exit;
 
-use fervoulk::{compile, find_row, Model};
+use fervoulk::{compile, find_row, row_values, Model};
 
 /// The two lists of a network file: counts of words and numbers, then both, little-endian.
 fn network(bytes: &[u8]) -> Option<(Vec<u32>, Vec<f64>)> {
@@ -129,7 +130,23 @@ fn show(out: &mut impl Write, model: &Model, names: &Names) -> io::Result<()> {
     }
 
     reader.next();
-    writeln!(out, "\nobjective, to which the objective constant is added\n{}", reader.expression())
+    writeln!(out, "\nobjective, to which the objective constant is added\n{}", reader.expression())?;
+    show_values(out, model)
+}
+
+fn show_values(out: &mut impl Write, model: &Model) -> io::Result<()> {
+    writeln!(out, "\nvalues at the start")?;
+    let values = match row_values(&model.words, &model.constants, model.columns, &model.start) {
+        Ok(values) => values,
+        Err(refusal) => return writeln!(out, "refused: {refusal}"),
+    };
+    for (k, value) in values.shared.iter().enumerate() {
+        writeln!(out, "s[{k}] = {value:?}")?;
+    }
+    for (r, value) in values.rows.iter().enumerate() {
+        writeln!(out, "{r}: {value:?}")?;
+    }
+    writeln!(out, "objective {:?}, with the objective constant {:?}", values.objective, values.objective + model.objective)
 }
 
 fn main() -> io::Result<()> {

@@ -2,7 +2,8 @@
 
 use std::fmt;
 
-/// What is refused, by its word; with each, what the place is. The number is `kind.number()`. Later versions may have more kinds.
+/// What is refused, by its word, or for 19, which has none, by what is refused; with each, what the place is. The number is
+/// `kind.number()`. Later versions may have more kinds.
 ///
 /// ```
 /// use fervoulk::Kind;
@@ -15,7 +16,7 @@ use std::fmt;
 pub enum Kind {
     /// A network word has a wrong form, or a bus number is too high: the first such word, 0 for an empty list.
     Words = 1,
-    /// A limit is passed: the word that passes it, 0 where there is no bus.
+    /// A limit is passed: the word that passes it, 0 where there is no bus. In row values: the beginning word of shared part 4,352.
     Size,
     /// The number list does not have the needed length: that length.
     Count,
@@ -39,7 +40,8 @@ pub enum Kind {
     Short,
     /// The point has a wrong length: the number of columns. Else a number of it is not finite: the first such column.
     Point,
-    /// A voltage angle is outside -1,024 to 1,024: the column.
+    /// A voltage angle is outside -1,024 to 1,024: the column. In row values an argument of a sine or cosine is not finite or outside
+    /// -4,096 to 4,096: the beginning word of its part of the file.
     Swing,
     /// An output is not finite: its index. With n buses and m branches, 2n + 4m stands for the solver's objective and 2n + 4m + 1 for the
     /// check's own.
@@ -50,6 +52,8 @@ pub enum Kind {
     Model,
     /// There is no such row: the number of rows.
     Row,
+    /// The value of a shared part, a row or the objective is not finite: the beginning word of that part of the file.
+    Value,
 }
 
 impl Kind {
@@ -78,6 +82,7 @@ impl Kind {
         Kind::Residual,
         Kind::Model,
         Kind::Row,
+        Kind::Value,
     ];
 
     /// The kind that has this number, where there is one.
@@ -100,10 +105,11 @@ impl Kind {
         self as u32
     }
 
-    /// The word that stands beside the number.
+    /// The word that stands beside the number, empty for 19: the papers give it none.
     ///
     /// ```
     /// assert_eq!(fervoulk::Kind::Swing.word(), "swing");
+    /// assert_eq!(fervoulk::Kind::Value.word(), "");
     /// ```
     pub fn word(self) -> &'static str {
         match self {
@@ -125,11 +131,12 @@ impl Kind {
             Kind::Residual => "residual",
             Kind::Model => "model",
             Kind::Row => "row",
+            Kind::Value => "",
         }
     }
 }
 
-/// A refusal: a number and a place. It is shown as number, word and place.
+/// A refusal: a number and a place. It is shown as number, word and place, without the word where the number has none.
 ///
 /// ```
 /// use fervoulk::{compile, Kind, Refusal};
@@ -193,7 +200,7 @@ impl Refusal {
         Kind::of(self.number)
     }
 
-    /// The word, "unknown" for a number that this crate does not know.
+    /// The word, empty where the number has none, "unknown" for a number that this crate does not know.
     ///
     /// ```
     /// use fervoulk::{Kind, Refusal};
@@ -206,7 +213,10 @@ impl Refusal {
 
 impl fmt::Display for Refusal {
     fn fmt(&self, f: &mut fmt::Formatter<'_>) -> fmt::Result {
-        write!(f, "{} {} {}", self.number(), self.word(), self.place())
+        match self.word() {
+            "" => write!(f, "{} {}", self.number(), self.place()),
+            word => write!(f, "{} {word} {}", self.number(), self.place()),
+        }
     }
 }
 
@@ -228,6 +238,12 @@ mod tests {
         assert_eq!(Refusal::of(0), None);
         assert_eq!(Refusal::of((7 << 32) + 2), Some(Refusal::new(Kind::Bounds, 2)));
         assert_eq!(Refusal::of((18 << 32) + 0xffff_ffff), Some(Refusal::new(Kind::Row, u32::MAX)));
+        assert_eq!(Refusal::of((19 << 32) + 3), Some(Refusal::new(Kind::Value, 3)));
+    }
+
+    #[test]
+    fn a_number_without_a_word() {
+        assert_eq!(Refusal::new(Kind::Value, 3).to_string(), "19 3");
     }
 
     #[test]

@@ -10,6 +10,7 @@ mod boundary;
 mod depot;
 
 use boundary::compile::{fervoulk_compile, Lists};
+use boundary::row_values::{fervoulk_row_count, fervoulk_row_values, fervoulk_row_values_objective, fervoulk_shared_count};
 use boundary::validate::{fervoulk_check, fervoulk_objective, fervoulk_residual};
 use depot::{crossed, CONSTANTS, FILE, INACTIVE, NUMBERS, WORDS};
 
@@ -114,4 +115,56 @@ fn lists_of_compile() {
         lengths[list] = 0;
         assert_eq!(compiled(&WORDS, &NUMBERS, lengths), (packed(12, list as u64 + 1), true, false));
     }
+}
+
+/// Row values of Depot M's file, or of its first words, by both functions into lists of these lengths: the packed answer, the objective;
+/// and the front of both lists, which is nothing where something is refused.
+fn worked_out(words: &[u32], point: &[f64], lengths: [usize; 2], fronts: [&[f64]; 2]) -> (u64, f64) {
+    let lent = || (nans(lengths[0]), nans(lengths[1]));
+    let (mut shared, mut rows) = lent();
+    let answer = fervoulk_row_values(words, &CONSTANTS, 4, point, &mut shared, &mut rows);
+    assert!(holds(&shared, fronts[0]) && holds(&rows, fronts[1]), "fervoulk_row_values");
+    let (mut shared, mut rows) = lent();
+    let objective = fervoulk_row_values_objective(words, &CONSTANTS, 4, point, &mut shared, &mut rows);
+    assert!(holds(&shared, fronts[0]) && holds(&rows, fronts[1]), "fervoulk_row_values_objective");
+    (answer, objective)
+}
+
+#[test]
+fn lists_of_row_values() {
+    let fronts: [&[f64]; 2] = [&[4.0], &[0.5, 0.0, -0.0]];
+    let point = [-0.0, 2.0, 1.5, 0.25];
+    for lengths in [[LENT, LENT], [1, 3]] {
+        assert_eq!(worked_out(&FILE, &point, lengths, fronts), (0, 6.75));
+    }
+    let refused = |words, point, lengths| {
+        let (answer, objective) = worked_out(words, point, lengths, [&[], &[]]);
+        assert_eq!(objective.to_bits(), 0);
+        answer
+    };
+    assert_eq!(refused(&FILE[..28], &point, [LENT, LENT]), packed(17, 28));
+    assert_eq!(refused(&FILE, &point, [0, 0]), packed(12, 1));
+    assert_eq!(refused(&FILE, &point, [LENT, 2]), packed(12, 2));
+    assert_eq!(refused(&FILE, &point[..3], [LENT, 2]), packed(12, 2));
+    assert_eq!(refused(&FILE, &point[..3], [LENT, LENT]), packed(13, 4));
+    assert_eq!(refused(&FILE, &[0.0, f64::NAN, 1.0, 0.25], [LENT, LENT]), packed(13, 1));
+    // the square of vm; the objective, behind parts that are all right
+    assert_eq!(refused(&FILE, &[0.0, 1e200, 1.0, 0.25], [LENT, LENT]), packed(19, 0));
+    assert_eq!(refused(&FILE, &[0.0, 1.0, 1e200, 0.25], [LENT, LENT]), packed(19, 19));
+}
+
+#[test]
+fn counts_of_a_file() {
+    let counts =
+        |words, constants, columns| (fervoulk_shared_count(words, constants, columns), fervoulk_row_count(words, constants, columns));
+    assert_eq!(counts(&FILE, 6, 4), (1, 3));
+    // 17
+    assert_eq!(counts(&FILE[..28], 6, 4), (0, 0));
+    assert_eq!(counts(&FILE, 5, 4), (0, 0));
+    assert_eq!(counts(&FILE, 6, 3), (0, 0));
+    assert_eq!(counts(&[], usize::MAX, usize::MAX), (0, 0));
+    // 2, and one shared part fewer
+    let words: Vec<u32> = (0..4353).flat_map(|i| [0xA0000000 | i, 0x10000000]).chain([0xC0000000, 0x10000000, 0xD0000000]).collect();
+    assert_eq!(counts(&words, 0, 1), (0, 0));
+    assert_eq!(counts(&[&words[..2 * 4352], &words[2 * 4353..]].concat(), 0, 1), (4352, 0));
 }

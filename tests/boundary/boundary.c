@@ -77,7 +77,9 @@ static void test_answers(void) {
     EXPECT(strcmp(fervoulk_word(FERVOULK_SHORT), "short") == 0);
     EXPECT(strcmp(fervoulk_word(FERVOULK_ROW), "row") == 0);
     EXPECT(strcmp(fervoulk_word(0), "") == 0);
-    EXPECT(strcmp(fervoulk_word(19), "") == 0);
+    /* a refusal without a word, and a number that is none's */
+    EXPECT(strcmp(fervoulk_word(FERVOULK_VALUE), "") == 0);
+    EXPECT(strcmp(fervoulk_word(UINT32_MAX), "") == 0);
 }
 
 /* ---- the guard values */
@@ -138,6 +140,80 @@ static void test_same(void) {
     EXPECT(fervoulk_same(NULL, 0, NULL, 0, NULL, 0, NULL, 0) == 1);
     EXPECT(fervoulk_same(NULL, 0, NULL, 0, LIST(model), NULL, 0) == 0);
     EXPECT(fervoulk_same(NULL, 0, NULL, 0, NULL, 0, LIST(model_constants)) == 0);
+}
+
+/* ---- row values */
+
+#define MODEL LIST(model), LIST(model_constants), 4
+
+/* row values of a file by both functions, into lists of 3 and 5 of which the front is the result; none where something is refused */
+static void expect_row_values(
+    const uint32_t *w, size_t w_length, const double *p, size_t columns, uint32_t number, uint32_t place, const double *shared_values,
+    size_t shared_count, const double *row_values, size_t row_count, double objective, int line) {
+    for (size_t call = 0; call < 2; call++) {
+        double shared[3], rows[5], shared_after[3], rows_after[5];
+        fill_nans(LIST(shared), 16 * call);
+        fill_nans(LIST(shared_after), 16 * call);
+        fill_nans(LIST(rows), 16 * call + 8);
+        fill_nans(LIST(rows_after), 16 * call + 8);
+        for (size_t i = 0; i < shared_count; i++) shared_after[i] = shared_values[i];
+        for (size_t i = 0; i < row_count; i++) rows_after[i] = row_values[i];
+        if (call == 0) {
+            const uint64_t answer = fervoulk_row_values(w, w_length, LIST(model_constants), 4, p, columns, LIST(shared), LIST(rows));
+            expect(refused(answer, number, place), "fervoulk_row_values", line);
+        } else {
+            const double is = fervoulk_row_values_objective(w, w_length, LIST(model_constants), 4, p, columns, LIST(shared), LIST(rows));
+            expect(same_bits(is, objective), "fervoulk_row_values_objective", line);
+        }
+        expect(same_list(shared, shared_after, LENGTH(shared)), "shared values, and behind them", line);
+        expect(same_list(rows, rows_after, LENGTH(rows)), "row values, and behind them", line);
+    }
+}
+
+static void test_row_values(void) {
+    const double off[] = {-0.0, 2, 1.5, 0.25};
+    const double square[] = {0, 1e200, 1, 0.25};
+    const double cost[] = {0, 1, 1e200, 0.25};
+    const double infinite[] = {0, 1, INFINITY, 0.25};
+    const double longer[] = {0, 1, 1, 0.25, 0};
+    const double none[] = {0, 0, 0}, one[] = {1}, four[] = {4}, half[] = {0.5, 0, -0.0};
+    expect_row_values(LIST(model), point, 4, 0, 0, LIST(one), LIST(none), 4, __LINE__);
+    expect_row_values(LIST(model), off, 4, 0, 0, LIST(four), LIST(half), 6.75, __LINE__);
+    expect_row_values(model, 28, point, 4, FERVOULK_MODEL, 28, NULL, 0, NULL, 0, 0, __LINE__);
+    expect_row_values(LIST(model), point, 3, FERVOULK_POINT, 4, NULL, 0, NULL, 0, 0, __LINE__);
+    expect_row_values(LIST(model), longer, 5, FERVOULK_POINT, 4, NULL, 0, NULL, 0, 0, __LINE__);
+    expect_row_values(LIST(model), infinite, 4, FERVOULK_POINT, 2, NULL, 0, NULL, 0, 0, __LINE__);
+    expect_row_values(LIST(model), square, 4, FERVOULK_VALUE, 0, NULL, 0, NULL, 0, 0, __LINE__);
+    expect_row_values(LIST(model), cost, 4, FERVOULK_VALUE, 19, NULL, 0, NULL, 0, 0, __LINE__);
+}
+
+/* an objective, the sine of a constant, in a file without shared parts, rows and columns: every list but two is empty */
+static uint64_t sine_of(double argument, double *objective) {
+    static const uint32_t sine[] = {0xC0000000, 0x80000000, 0x00000000, 0xD0000000};
+    *objective = fervoulk_row_values_objective(LIST(sine), &argument, 1, 0, NULL, 0, NULL, 0, NULL, 0);
+    return fervoulk_row_values(LIST(sine), &argument, 1, 0, NULL, 0, NULL, 0, NULL, 0);
+}
+
+static void test_row_values_lists(void) {
+    double shared[1], rows[3], objective;
+    EXPECT(fervoulk_shared_count(LIST(model), 6, 4) == 1);
+    EXPECT(fervoulk_row_count(LIST(model), 6, 4) == 3);
+    EXPECT(fervoulk_shared_count(model, 28, 6, 4) == 0);
+    EXPECT(fervoulk_row_count(model, 28, 6, 4) == 0);
+    EXPECT(fervoulk_shared_count(NULL, 0, SIZE_MAX, SIZE_MAX) == 0);
+    EXPECT(fervoulk_row_count(NULL, 0, 0, 0) == 0);
+    EXPECT(fervoulk_row_values(MODEL, LIST(point), LIST(shared), LIST(rows)) == 0);
+    EXPECT(same_bits(shared[0], 1) && same_bits(rows[2], 0));
+    EXPECT(refused(fervoulk_row_values(MODEL, LIST(point), NULL, 0, NULL, 0), FERVOULK_SHORT, 1));
+    EXPECT(refused(fervoulk_row_values(MODEL, NULL, 0, LIST(shared), rows, 2), FERVOULK_SHORT, 2));
+    EXPECT(refused(fervoulk_row_values(MODEL, NULL, 0, LIST(shared), LIST(rows)), FERVOULK_POINT, 4));
+    EXPECT(refused(fervoulk_row_values(LIST(model), NULL, 0, 4, LIST(point), LIST(shared), LIST(rows)), FERVOULK_MODEL, 5));
+    EXPECT(refused(fervoulk_row_values(NULL, 0, NULL, 0, 0, NULL, 0, NULL, 0, NULL, 0), FERVOULK_MODEL, 0));
+    EXPECT(same_bits(fervoulk_row_values_objective(NULL, 0, NULL, 0, 0, NULL, 0, NULL, 0, NULL, 0), 0));
+    EXPECT(sine_of(-0.0, &objective) == 0 && same_bits(objective, -0.0));
+    EXPECT(sine_of(4096, &objective) == 0 && sine_of(-4096, &objective) == 0);
+    EXPECT(refused(sine_of(nextafter(4096, INFINITY), &objective), FERVOULK_SWING, 0) && same_bits(objective, 0));
+    EXPECT(refused(sine_of(NAN, &objective), FERVOULK_SWING, 0) && same_bits(objective, 0));
 }
 
 /* ---- the check */
@@ -373,6 +449,8 @@ int main(void) {
     test_nans();
     test_find_row();
     test_same();
+    test_row_values();
+    test_row_values_lists();
     test_check();
     test_outputs();
     test_residuals();
