@@ -7,4 +7,5 @@
 
 pub mod compile;
 pub mod nl;
+pub mod row_values;
 pub mod validate;
