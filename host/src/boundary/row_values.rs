@@ -1,9 +1,7 @@
-//! librow_values.a: the values of a model file's shared parts, rows and objective at a point.
+//! librow_values.a: a model file worked out at a point.
 
 mod c {
     extern "C" {
-        pub fn fervoulk_shared_count(words: *const u32, words_length: usize, constants: usize, columns: usize) -> usize;
-        pub fn fervoulk_row_count(words: *const u32, words_length: usize, constants: usize, columns: usize) -> usize;
         pub fn fervoulk_row_values(
             words: *const u32,
             words_length: usize,
@@ -30,21 +28,13 @@ mod c {
             rows: *mut f64,
             rows_length: usize,
         ) -> f64;
+        pub fn fervoulk_shared_count(words: *const u32, words_length: usize, constants: usize, columns: usize) -> usize;
+        pub fn fervoulk_row_count(words: *const u32, words_length: usize, constants: usize, columns: usize) -> usize;
     }
 }
 
-pub fn fervoulk_shared_count(words: &[u32], constants: usize, columns: usize) -> usize {
-    // SAFETY: the pair is a slice.
-    unsafe { c::fervoulk_shared_count(words.as_ptr(), words.len(), constants, columns) }
-}
-
-pub fn fervoulk_row_count(words: &[u32], constants: usize, columns: usize) -> usize {
-    // SAFETY: the pair is a slice.
-    unsafe { c::fervoulk_row_count(words.as_ptr(), words.len(), constants, columns) }
-}
-
 pub fn fervoulk_row_values(words: &[u32], constants: &[f64], columns: usize, point: &[f64], shared: &mut [f64], rows: &mut [f64]) -> u64 {
-    // SAFETY: each pair is a slice; the written ones are `&mut` slices.
+    // SAFETY: each pair is a slice; the two written ones are distinct `&mut` slices.
     unsafe {
         c::fervoulk_row_values(
             words.as_ptr(),
@@ -70,7 +60,7 @@ pub fn fervoulk_row_values_objective(
     shared: &mut [f64],
     rows: &mut [f64],
 ) -> f64 {
-    // SAFETY: each pair is a slice; the written ones are `&mut` slices.
+    // SAFETY: each pair is a slice; the two written ones are distinct `&mut` slices.
     unsafe {
         c::fervoulk_row_values_objective(
             words.as_ptr(),
@@ -86,4 +76,14 @@ pub fn fervoulk_row_values_objective(
             rows.len(),
         )
     }
+}
+
+pub fn fervoulk_shared_count(words: &[u32], constants: usize, columns: usize) -> usize {
+    // SAFETY: the pair is a slice.
+    unsafe { c::fervoulk_shared_count(words.as_ptr(), words.len(), constants, columns) }
+}
+
+pub fn fervoulk_row_count(words: &[u32], constants: usize, columns: usize) -> usize {
+    // SAFETY: the pair is a slice.
+    unsafe { c::fervoulk_row_count(words.as_ptr(), words.len(), constants, columns) }
 }
