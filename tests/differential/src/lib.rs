@@ -11,4 +11,5 @@ pub mod ours;
 pub mod random;
 pub mod reader;
 pub mod rules;
+pub mod value_cases;
 pub mod values;
