@@ -69,14 +69,16 @@ fn differences(case: &Case, expected: &Values, memory: &mut Memory) -> Vec<Strin
     if objective.to_bits() != expected.objective.to_bits() {
         differences.push(format!("objective {objective:e} and not {:e}", expected.objective));
     }
-    let count = constants.len();
-    let counts = [ours::shared_count(words, count, file.columns), ours::row_count(words, count, file.columns)];
-    let needed = match values::parts(&file.words, count, file.columns) {
-        Ok(parts) => [parts.shared.len(), parts.rows.len()],
-        Err(_) => [0, 0],
-    };
-    if counts != needed {
-        differences.push(format!("counts {counts:?} and not {needed:?}"));
+    // The counts are had from any number of constants.
+    for count in [constants.len(), constants.len() + 1, usize::MAX] {
+        let counts = [ours::shared_count(words, count, file.columns), ours::row_count(words, count, file.columns)];
+        let needed = match values::parts(&file.words, count, file.columns) {
+            Ok(parts) => [parts.shared.len(), parts.rows.len()],
+            Err(_) => [0, 0],
+        };
+        if counts != needed {
+            differences.push(format!("{count} constants: counts {counts:?} and not {needed:?}"));
+        }
     }
     if *words != file.words[..] || bits(constants) != bits(&file.constants) || bits(x) != bits(point) {
         differences.push("a list lent for reading has changed".to_owned());
