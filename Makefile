@@ -6,9 +6,9 @@
 # make test: the gate. make listing: public contracts, the definitions that they cite and the theorems of docs/PROOF.md, one sorted text for diff.
 # make fmt: lays out every Rattle and Rust file. make lint: says which are not laid out, and what shellcheck finds where it is there.
 # make replay: the stored answers of the original Rust, held to the definitions (some minutes; not in the gate).
-# make differential, files, platform, bench: the original Rust beside the port; SOURCE=FOLDER is the folder that holds its
-#   crates/tellegen/src, and tests/oracle/README.md names what else they need. N: how many cases; SEED. make answers: writes the answers of
-#   crates/oracle_answers anew.
+# make differential, files, platform, bench: the original Rust, or a reading of the papers, beside the port; SOURCE=FOLDER is the folder
+#   that holds its crates/tellegen/src, and tests/oracle/README.md names what else they need. N: how many cases; SEED. make answers: writes
+#   the answers of crates/oracle_answers anew.
 .PHONY: run listing model solve case archives test fmt lint replay differential files platform answers bench
 # A case that is not there is said before anything is proved.
 .NOTPARALLEL:

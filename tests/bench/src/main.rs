@@ -1,13 +1,14 @@
-//! The original Rust beside the port, same inputs, one run.
+//! The original Rust beside the port, same inputs, one run; for row values a plain interpreter (plain.rs) beside the port.
 //!
 //! Each function is timed in batches, the batches of all functions taken in turn; the figure is the least batch divided by its calls,
 //! and in brackets the middle one. Lists are lent once for a network and not cleared between calls. The Rust's models and answers are
 //! dropped outside the time.
 
-use differential::balance;
+mod plain;
+
 use differential::networks::{self, Manner, Net, Sizes};
-use differential::ours;
 use differential::random::Random;
+use differential::{balance, ours, reader};
 use std::hint::black_box;
 use std::time::Instant;
 
@@ -91,6 +92,7 @@ fn main() {
             exceeded(&net, &x, own);
             parts(&net, &x, own);
             compile_parts(&net);
+            row_values(&net, &x);
             println!();
         }
     }
@@ -252,6 +254,54 @@ fn compile_parts(net: &Net) {
     part("constants and counts: refusals 11 and 12", at(1) - at(0));
     part("the seven lists", at(2) - at(1));
     part("the whole compile", at(2));
+}
+
+/// Row values of compile's own file: the port beside the plain interpreter, and the port where 19 refuses the last row that has a constant.
+fn row_values(net: &Net, x: &[f64]) {
+    let (words, numbers) = (net.words(), net.numbers());
+    let [_, _, columns, rows, shared] = ours::counts(&words, &numbers);
+    let mut lists = lent(&words, &numbers);
+    assert_eq!(compile_into(&words, &numbers, &mut lists), 0);
+    let (words, constants) = (lists.words, &lists.numbers[0]);
+    let infinite = last_infinite(&words, constants, columns);
+    let [mut s, mut t, mut u] = [(); 3].map(|()| (vec![0.0; shared], vec![0.0; rows]));
+    let objective = plain::values(&words, constants, x, &mut s.0, &mut s.1);
+    assert_eq!(ours::row_values(&words, constants, columns, x, &mut t.0, &mut t.1), 0);
+    assert_eq!(ours::row_values_objective(&words, constants, columns, x, &mut t.0, &mut t.1).to_bits(), objective.to_bits());
+    assert_eq!(s, t);
+    assert_eq!(ours::row_values(&words, &infinite, columns, x, &mut u.0, &mut u.1) >> 32, 19);
+    let mut timed = vec![
+        Timed::new(|| plain::values(black_box(&words), constants, x, &mut s.0, &mut s.1)),
+        Timed::new(|| ours::row_values(black_box(&words), constants, columns, x, &mut t.0, &mut t.1)),
+        Timed::new(|| ours::row_values(black_box(&words), &infinite, columns, x, &mut u.0, &mut u.1)),
+    ];
+    let times = measure(&mut timed);
+    println!("  row values, {} words, {shared} shared parts, {rows} rows:", words.len());
+    say("plain interpreter, fdlibm", times[0]);
+    say("port: row_values", times[1]);
+    say("port: row_values, the last row refused (19)", times[2]);
+    let large = net.buses.len() > 1;
+    let most = |name: &str, of: usize, aim: f64| {
+        let ratio = times[of][0] / times[0][0];
+        let met = if ratio <= aim { "met" } else { "not met" };
+        if large {
+            println!("  {name:<44} {ratio:>9.2}  aim at most {aim:.2}: {met}");
+        } else {
+            println!("  {name:<44} {ratio:>9.2}");
+        }
+    };
+    most("row_values over the interpreter", 1, 1.5);
+    most("the same, refused", 2, 5.0);
+}
+
+/// The constants with an infinite one in the last row that has any.
+fn last_infinite(words: &[u32], constants: &[f64], columns: usize) -> Vec<f64> {
+    let reading = reader::read(words, constants.len(), columns).ok().expect("a file that passes reading");
+    let of = |part: &reader::Part| words[part.start..part.start + part.length].iter().find(|&word| word >> 28 == 0);
+    let load = reading.rows.iter().rev().find_map(of).expect("a constant");
+    let mut infinite = constants.to_vec();
+    infinite[*load as usize] = f64::INFINITY;
+    infinite
 }
 
 /// How the cost grows with the network, and with each list alone.

@@ -25,7 +25,7 @@ pub struct Tally {
 }
 
 /// The bits of NaN number i: both signs, quiet and signalling, each with a payload of its own.
-fn nan(i: usize) -> u64 {
+pub fn nan(i: usize) -> u64 {
     let n = i as u64;
     let payload = (n + 1).wrapping_mul(0x9e37_79b9_7f4a_7c15) & ((1 << 51) - 1);
     (n % 2) << 63 | 0x7ff << 52 | (n / 2 % 2) << 51 | payload

@@ -2,6 +2,10 @@
 
 use fervoulk::boundary::compile;
 pub use fervoulk::boundary::compile::fervoulk_objective_constant as objective_constant;
+pub use fervoulk::boundary::row_values::{
+    fervoulk_row_count as row_count, fervoulk_row_values as row_values, fervoulk_row_values_objective as row_values_objective,
+    fervoulk_shared_count as shared_count,
+};
 pub use fervoulk::boundary::validate::{
     fervoulk_check as check, fervoulk_objective as objective, fervoulk_outputs as outputs, fervoulk_residual as residual,
     fervoulk_residuals as residuals,

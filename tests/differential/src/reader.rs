@@ -1,13 +1,28 @@
 //! Document 01's rules on reading a model file, and nothing else.
 
 /// A word's kind and load.
-fn split(word: u32) -> (u32, usize) {
+pub fn split(word: u32) -> (u32, usize) {
     (word >> 28, (word & 0x0fff_ffff) as usize)
 }
 
-/// Where each row's expression starts and how long it is; or the place of 17.
+/// Where an expression starts, behind its beginning word, and how many words it has.
+#[derive(Clone, Copy)]
+pub struct Part {
+    pub start: usize,
+    pub length: usize,
+}
+
+impl Part {
+    /// The index of its beginning word.
+    pub fn begins(&self) -> usize {
+        self.start - 1
+    }
+}
+
 pub struct Reading {
-    pub rows: Vec<(usize, usize)>,
+    pub shared: Vec<Part>,
+    pub rows: Vec<Part>,
+    pub objective: Part,
 }
 
 struct Reader<'a> {
@@ -22,31 +37,21 @@ struct Reader<'a> {
 /// "Expressions nest at most 8 deep (a leaf is 1)."
 const DEEPEST: usize = 8;
 
+/// The parts of the file; or the place of 17.
 pub fn read(words: &[u32], constants: usize, columns: usize) -> Result<Reading, usize> {
     let mut reader = Reader { words, constants, columns, at: 0, used: 0 };
-    let mut shared = 0;
-    let mut rows = Vec::new();
-    loop {
+    let (mut shared, mut rows) = (Vec::new(), Vec::new());
+    let objective = loop {
         let (kind, load) = reader.next()?;
         match kind {
             // "All shared parts come first, then rows, each numbered from 0, then objective and end."
-            10 if rows.is_empty() && load == shared => {
-                // "A shared part names only lower ones."
-                reader.expression(shared)?;
-                shared += 1;
-            }
-            11 if load == rows.len() => {
-                let start = reader.at;
-                reader.expression(shared)?;
-                rows.push((start, reader.at - start));
-            }
-            12 if load == 0 => {
-                reader.expression(shared)?;
-                break;
-            }
+            // "A shared part names only lower ones."
+            10 if rows.is_empty() && load == shared.len() => shared.push(reader.expression(shared.len())?),
+            11 if load == rows.len() => rows.push(reader.expression(shared.len())?),
+            12 if load == 0 => break reader.expression(shared.len())?,
             _ => return Err(reader.at - 1),
         }
-    }
+    };
     let end = reader.next()?;
     // "the end word if constants are left over"
     if end != (13, 0) || reader.used != constants {
@@ -56,7 +61,7 @@ pub fn read(words: &[u32], constants: usize, columns: usize) -> Result<Reading, 
     if reader.at < words.len() {
         return Err(reader.at);
     }
-    Ok(Reading { rows })
+    Ok(Reading { shared, rows, objective })
 }
 
 impl Reader<'_> {
@@ -68,7 +73,8 @@ impl Reader<'_> {
     }
 
     /// One expression, which may name shared parts below `named`. `wanted[d]` operands are still to come at depth d + 1.
-    fn expression(&mut self, named: usize) -> Result<(), usize> {
+    fn expression(&mut self, named: usize) -> Result<Part, usize> {
+        let start = self.at;
         let mut wanted = vec![1usize];
         while let Some(last) = wanted.last_mut() {
             if *last == 0 {
@@ -99,6 +105,6 @@ impl Reader<'_> {
                 wanted.push(operands);
             }
         }
-        Ok(())
+        Ok(Part { start, length: self.at - start })
     }
 }

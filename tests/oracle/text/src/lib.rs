@@ -52,6 +52,17 @@ impl Elementary for f64 {
     }
 }
 
+/// For tests that work out expressions.
+#[inline]
+pub fn sin(x: f64) -> f64 {
+    Elementary::sin(x)
+}
+
+#[inline]
+pub fn cos(x: f64) -> f64 {
+    Elementary::cos(x)
+}
+
 pub mod ratings {
     include!(concat!(env!("ORACLE_CUT"), "/ratings.rs"));
 }
