@@ -1,7 +1,7 @@
 # make run: proves the program depot and the crates below it (a line for each; the prover's notes go to target/log/prove), builds it and
 #   runs it on examples/depot_m.txt. CASE=curve takes examples/curve.txt. The program lends lists of 512, so that a larger model, as
 #   CASE=case9 with its 980 words, is answered with "refused 12 1": make model shows those too.
-# make model: shows the model file of the same CASE as text (host/examples/model.rs), of any size; needs cargo.
+# make model: shows the model file of the same CASE as text, with its values at the start (host/examples/model.rs), of any size; needs cargo.
 # make solve: solves the CASE with Ipopt and checks the point (examples/ipopt, docs/SOLVER.md); OPTIONS are Ipopt's, NAME=VALUE.
 # make test: the gate. make listing: public contracts, the definitions that they cite and the theorems of docs/PROOF.md, one sorted text for diff.
 # make fmt: lays out every Rattle and Rust file. make lint: says which are not laid out, and what shellcheck finds where it is there.
