@@ -19,7 +19,7 @@ use Rattle.float.proofs.Finite.{finite-append}
 use Rattle.float.specs.Number.{isFinite, AllFinite, maximum, _⊖_, zero64}
 use Rattle.bounds.specs.Bounds.{positiveViolation}
 use Rattle.network.specs.Network.{buses, generators, branches, references, columns}
-use Rattle.lists.specs.Finite.{firstNonFinite}
+use Rattle.lists.specs.Finite.{firstNonFinite, pointFault}
 use Rattle.acopf.specs.Factor.{networkFault}
 use Rattle.acopf.proofs.Order.{network-proper}
 use Rattle.lists.proofs.NonFinite.{non-finite-clear}
@@ -87,7 +87,7 @@ module _ (ws : List ℕ) (xs x : List Float) (solver : Float) where
 
   module _ (lent : ℕ) where
     pub accepted-means : checkFault ws xs x solver lent ≡ clear → Accepted ws xs x solver lent
-    unfolding faultOutput faultPoint faultSwing solved residuals tolerances activeBalance reactiveBalance variableBounds referenceAngles angleLimits thermalLimits epigraphs objectiveDifference
+    unfolding faultOutput faultPoint pointFault faultSwing solved residuals tolerances activeBalance reactiveBalance variableBounds referenceAngles angleLimits thermalLimits epigraphs objectiveDifference
     accepted-means e =
         let c = ap (λ f. f .number) (sym (check-is ws xs x solver lent) ∙ e) in
         let network = or-left (networkFault ws xs) _ c in
@@ -123,7 +123,7 @@ module _ (ws : List ℕ) (xs x : List Float) (solver : Float) where
         }
 
     means-accepted : Accepted ws xs x solver lent → Clear (checkFault ws xs x solver lent)
-    unfolding faultOutput faultPoint faultSwing solved residuals tolerances activeBalance reactiveBalance variableBounds referenceAngles angleLimits thermalLimits epigraphs objectiveDifference
+    unfolding faultOutput faultPoint pointFault faultSwing solved residuals tolerances activeBalance reactiveBalance variableBounds referenceAngles angleLimits thermalLimits epigraphs objectiveDifference
     means-accepted a =
         ap (λ f. f .number) (check-is ws xs x solver lent) ∙
         or-clear (networkFault ws xs) _ (ap (λ f. f .number) (a .sound .network))

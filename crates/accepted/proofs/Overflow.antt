@@ -16,7 +16,7 @@ use Rattle.base.specs.declared.Fault.{Fault}
 use Rattle.float.specs.Number.{isFinite, absolute}
 use Rattle.float.proofs.Really.{Number}
 use Rattle.network.specs.Network.{buses, columns}
-use Rattle.lists.specs.Finite.{firstNonFinite}
+use Rattle.lists.specs.Finite.{firstNonFinite, pointFault}
 use Rattle.lists.proofs.NonFinite.{non-finite-clear}
 use Rattle.derived.specs.Outputs.{pInjection, qInjection, flows, pFrom, qFrom, pTo, qTo, outputs}
 use Rattle.derived.proofs.Outputs.{outputs-at}
@@ -37,7 +37,7 @@ above-tiny (fin s m e) n f w = true≢false f
 
 module _ (ws : List ℕ) (xs x : List Float) (solver : Float) (lent : ℕ) (S : Sound ws xs x solver lent) where
   residual-alone : checkFault ws xs x solver lent ≡ faultResidual ws xs x solver (solved ws xs x solver)
-  unfolding faultOutput faultPoint faultSwing
+  unfolding faultOutput faultPoint pointFault faultSwing
   residual-alone =
       check-is ws xs x solver lent ∙ or-go _ _ (ap (λ f. f .number) (S .network))
       ∙ or-go _ _ (test _ _ (le-leb _ _ (S .room)))

@@ -32,7 +32,8 @@ use Rattle.reading.proofs.Reading.{compiled-reads}
 use Rattle.model_reading.specs.Reading.{sharedLimit, yields}
 use Rattle.model_reading.proofs.Reading.{yields-exactly}
 use Rattle.expression.specs.Value.{value}
-use Rattle.row_values.specs.Answer.{valuesFault, pointFault, roomFault, refusal, allShared, allRows, objectiveValue}
+use Rattle.lists.specs.Finite.{pointFault}
+use Rattle.row_values.specs.Answer.{valuesFault, roomFault, refusal, allShared, allRows, objectiveValue}
 use Rattle.compiled_values.specs.File.{partValues, fileReading, fileRefusal, fileSharedAfter, fileRowsAfter}
 use Rattle.compiled_values.specs.Spared.{AnglesRight, Spared}
 use Rattle.compiled_values.proofs.Difference.{nan-not-right}

@@ -18,7 +18,8 @@ use Rattle.nl.specs.File.{Model}
 use Rattle.model_reading.specs.Place.{size}
 use Rattle.model_reading.specs.Reading.{sharedLimit, yields}
 use Rattle.expression.specs.Value.{value, inRange}
-use Rattle.row_values.specs.Answer.{valueFault, sharedFault, rowsFault, valuesFault, pointFault, roomFault, refusal}
+use Rattle.lists.specs.Finite.{pointFault}
+use Rattle.row_values.specs.Answer.{valueFault, sharedFault, rowsFault, valuesFault, roomFault, refusal}
 use Rattle.compiled_values.specs.Spared.{SharedSpared, RowsSpared, Spared}
 
 module _ (P : ℕ → Type 0) (none-refused : P 0) where

@@ -1,2 +1,3 @@
 pub mod NonFinite
+pub mod Point
 pub mod Copy

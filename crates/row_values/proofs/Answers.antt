@@ -8,7 +8,7 @@ use lib.ListN.{length, take, drop, length-map}
 use lib.Seq.{length-take-le}
 use lib.Dec.{leb, eqb}
 use lib.Ieee.{Float, binary64, toBits}
-use borrow.Author.Tests.{leb-true, leb-false, le-leb, eq-eqb, ne-eqb}
+use borrow.Author.Tests.{leb-true, leb-false, le-leb, ne-eqb}
 use Rattle.base.specs.declared.Fault.{Fault}
 use Rattle.base.specs.Fault.{fault, clear, unless, orElse}
 use Rattle.base.specs.Refusal.{POINT, SWING, MODEL, VALUE}
@@ -33,13 +33,14 @@ use Rattle.row_values.specs.declared.scan.FileScan.{FileScan}
 use Rattle.row_values.specs.declared.scan.FileScan.the-variants as file
 use Rattle.row_values.specs.declared.scan.Scan.{Scan}
 use Rattle.row_values.specs.declared.scan.Scan.the-variants as scanned
-use Rattle.row_values.specs.Answer.{valueFault, sharedValues, sharedFault, rowsFault, valuesFault, pointFault, sizeFault, roomFault, refusal, allShared, allRows, objectiveValue, refusedBy, rowValues, sharedAfter, rowsAfter}
-use Rattle.row_values.specs.contracts.Run.{roomOf, finiteFault, termsAt, partValue, partFault, sharedPass, rowsPass, RowsScanned, rowsOf, Writable, FileRun, FileScanned, lengthFault, Accepted, Settled}
+use Rattle.lists.specs.Finite.{pointFault}
+use Rattle.row_values.specs.Answer.{valueFault, sharedValues, sharedFault, rowsFault, valuesFault, sizeFault, roomFault, refusal, allShared, allRows, objectiveValue, refusedBy, rowValues, sharedAfter, rowsAfter}
+use Rattle.row_values.specs.contracts.Run.{roomOf, termsAt, partValue, partFault, sharedPass, rowsPass, RowsScanned, rowsOf, Writable, FileRun, FileScanned, lengthFault, Settled}
 use Rattle.row_values.proofs.Refusals.{has-room}
 
 -- ---- how many
 
-length-values : (point values : List Float) (ts : Terms) → length (valuesOf point values ts) ≡ count ts
+pub length-values : (point values : List Float) (ts : Terms) → length (valuesOf point values ts) ≡ count ts
 unfolding valuesOf
 length-values point values none = refl
 length-values point values (more e ts) = ap suc (length-values point values ts)
@@ -153,14 +154,10 @@ module _ (ws : List ℕ) (xs point : List Float) where
         unfolding countsOf
         counts-pass = ap countsOf e ∙ rw (le-leb n sharedLimit h)
 
-        right-length : length point ≡ columns → pointFault point columns ≡ finiteFault point
-        unfolding pointFault orElse unless
-        right-length l = rw (eq-eqb (length point) columns l)
-
-        worked-refuses : (f : Fault) → length point ≡ columns → f ≡ valuesFault point N → orElse (roomOf n rows lentShared lentRows) (orElse (finiteFault point) f) ≡ refuses
-        worked-refuses f l p =
+        worked-refuses : (f : Fault) → f ≡ valuesFault point N → orElse (roomOf n rows lentShared lentRows) (orElse (pointFault point columns) f) ≡ refuses
+        worked-refuses f p =
             sym (by-counts ∙ ap₂ inOrder counts-pass (read-passed n rows at objective extra e) ∙ or-go clear _ refl
-            ∙ ap₂ (λ x y. orElse (roomOf n rows lentShared lentRows) (orElse x y)) (right-length l) (sym p))
+            ∙ ap (λ y. orElse (roomOf n rows lentShared lentRows) (orElse (pointFault point columns) y)) (sym p))
 
 -- ---- the ways out of `settled`
 
@@ -188,7 +185,7 @@ module _ (ws : List ℕ) (xs : List Float) (columns : ℕ) (point : List Float) 
         let n : Clear (rowCounts ws (length xs) columns .fault) → ⊥ = rw l at h in
         refused-settled f (rowCounts ws (length xs) columns .fault) (k ∙ ap (λ x. x .fault) e) (counts-refuse ws xs point columns lentShared lentRows n) n
 
-    pub worked-settled : (f : File) (late : Fault) → s ≡ file.Worked f → late ≡ orElse (roomOf (f .shared) (f .rows) lentShared lentRows) (orElse (finiteFault point) (f .fault))
+    pub worked-settled : (f : File) (late : Fault) → s ≡ file.Worked f → late ≡ orElse (roomOf (f .shared) (f .rows) lentShared lentRows) (orElse (pointFault point columns) (f .fault))
         → Settled ws xs columns point lentShared lentRows array kept
         (record { shared = f .shared; rows = f .rows; «rows_at» = f .«rows_at»; «rows_next» = f .«rows_next»; objective = f .objective; fault = late })
     worked-settled f late q e =
@@ -201,16 +198,18 @@ module _ (ws : List ℕ) (xs : List Float) (columns : ℕ) (point : List Float) 
         let y = read-passed ws xs point columns (f .shared) (f .rows) (f .«rows_at») (F .objective-at) (F .extra) passed in
         let w = F .rows-are in
         record {
-          refuses = e ∙ worked-refuses ws xs point columns lentShared lentRows (f .shared) (f .rows) (f .«rows_at») (F .objective-at) (F .extra) passed (F .fits) (f .fault) l faults;
+          refuses = e ∙ worked-refuses ws xs point columns lentShared lentRows (f .shared) (f .rows) (f .«rows_at») (F .objective-at) (F .extra) passed (F .fits) (f .fault) faults;
           accepts = λ z.
-              let room = has-room (f .shared) (f .rows) lentShared lentRows (or-left (roomOf (f .shared) (f .rows) lentShared lentRows) (orElse (finiteFault point) (f .fault)) (rw e at z)) in
-              (room .0, record {
-                fits = F .fits;
-                shared-are = F .shared-are ∙ sym (ap (allShared point) y);
-                rows-are = ap (λ v. rowsOf ws xs point v f) (F .shared-are) ∙ sym (ap (allRows point) y);
-                writable = record { fits = room .1; its-kept = w .its-kept; at = w .at; next = w .next; start = w .start; end = w .end; reads = w .reads };
-                is = F .is ∙ ap (λ v. partValue ws xs point v (F .objective-at)) (F .shared-are) ∙ sym (ap (objectiveValue point) y);
-              });
+              let room = has-room (f .shared) (f .rows) lentShared lentRows (or-left (roomOf (f .shared) (f .rows) lentShared lentRows) (orElse (pointFault point columns) (f .fault)) (rw e at z)) in (
+                room .0,
+                record {
+                  fits = F .fits;
+                  shared-are = F .shared-are ∙ sym (ap (allShared point) y);
+                  rows-are = ap (λ v. rowsOf ws xs point v f) (F .shared-are) ∙ sym (ap (allRows point) y);
+                  writable = record { fits = room .1; its-kept = w .its-kept; at = w .at; next = w .next; start = w .start; end = w .end; reads = w .reads };
+                  is = F .is ∙ ap (λ v. partValue ws xs point v (F .objective-at)) (F .shared-are) ∙ sym (ap (objectiveValue point) y);
+                },
+              );
         }
 
 -- ---- the rows, gone through again

@@ -1,22 +1,18 @@
 -- Refusals 12 and 13, one test at a time, as the code finds them.
-use mathlib.Core.Path.{_≡_, refl, ap, sym, _∙_}
-use mathlib.Core.List.{List, [], _∷_}
-use mathlib.Core.Bool.{Bool, true, false, not}
-use Prim.Native.Nat.{ℕ, zero, suc, _+_, _≤_, _<_}
+use mathlib.Core.Path.{_≡_, ap, sym, _∙_}
+use mathlib.Core.List.{List}
+use Prim.Native.Nat.{ℕ, _≤_, _<_}
 use native.Mathlib.Omega.{arith}
-use lib.ListN.{length, getD}
+use lib.ListN.{length}
 use lib.Dec.{leb}
-use lib.Ieee.{Float, nan}
-use borrow.Author.Tests.{not-true, not-false, le-leb, lt-leb, leb-true}
+use borrow.Author.Tests.{le-leb, lt-leb, leb-true}
 use Rattle.base.specs.declared.Fault.{Fault}
-use Rattle.base.specs.Fault.{fault, clear, unless, orElse, first}
+use Rattle.base.specs.Fault.{fault, clear, unless, orElse}
 use Rattle.base.specs.Refusal.{SHORT, POINT}
-use Rattle.base.proofs.Firsts.{Clear, or-go, or-stop, or-left, or-right, unless-true, unless-proper}
-use Rattle.base.proofs.Turns.{first-done, test-more, test-here}
-use Rattle.float.specs.Number.{isFinite, zero64}
+use Rattle.base.proofs.Firsts.{Clear, or-go, or-stop, or-left, or-right, unless-true}
 use Rattle.model_reading.specs.declared.Counts.{Counts}
 use Rattle.model_reading.specs.Counts.{rowCounts}
-use Rattle.row_values.specs.contracts.Run.{roomOf, finiteFault, lengthFault}
+use Rattle.row_values.specs.contracts.Run.{roomOf, lengthFault}
 
 -- ---- 12
 
@@ -40,34 +36,6 @@ module _ (shared rows lentShared lentRows : ℕ) where
         leb-true shared lentShared (unless-true (leb shared lentShared) SHORT 1 (omega arith) a),
         leb-true rows lentRows (unless-true (leb rows lentRows) SHORT 2 (omega arith) b),
       )
-
--- ---- 13
-
-any-default : {A : Type 0} (l : List A) (i : ℕ) (d d′ : A) → i < length l → getD l i d ≡ getD l i d′
-any-default [] i d d′ h = absurd (omega arith)
-any-default (x ∷ l) zero d d′ h = refl
-any-default (x ∷ l) (suc i) d d′ h = any-default l i d d′ (omega arith)
-
-module _ (point : List Float) where
-  abbrev finite : ℕ → Bool
-  finite j = isFinite (getD point j zero64)
-
-  abbrev pub number-fault : ℕ → Fault
-  number-fault j = unless (finite j) (fault POINT j)
-
-  is-tested : (j : ℕ) (ok : Bool) → j < length point → ok ≡ isFinite (getD point j nan) → finite j ≡ ok
-  is-tested j ok h p = ap isFinite (any-default point j zero64 nan h) ∙ sym p
-
-  pub number-wrong : (j : ℕ) (ok : Bool) → j < length point → Clear (first j number-fault) → ok ≡ isFinite (getD point j nan) → not ok ≡ true
-      → fault POINT j ≡ finiteFault point
-  number-wrong j ok h k p q = test-here finite POINT (λ i. i) (length point) j (omega arith) h (is-tested j ok h p ∙ not-true ok q) k
-
-  pub number-right : (j : ℕ) (ok : Bool) → j < length point → Clear (first j number-fault) → ok ≡ isFinite (getD point j nan) → not ok ≡ false
-      → Clear (first (j + 1) number-fault)
-  number-right j ok h k p q = test-more finite POINT (λ i. i) j (is-tested j ok h p ∙ not-false ok q) k
-
-  pub numbers-right : (j : ℕ) → j ≤ length point → length point ≤ j → Clear (first j number-fault) → clear ≡ finiteFault point
-  numbers-right j h l k = first-done number-fault (length point) j (omega arith) (λ i. unless-proper (finite i) POINT i (omega arith)) k
 
 -- ---- a point of another length than there are columns
 

@@ -3,14 +3,15 @@ use Prim.Native.Nat.{ℕ, _+_}
 use mathlib.Core.Bool.{cond}
 use mathlib.Core.List.{List, [], _∷_, _++_}
 use lib.Dec.{leb, eqb}
-use lib.ListN.{length, getD}
+use lib.ListN.{length}
 use lib.Ieee.{Float}
 use Rattle.base.specs.declared.Fault.{Fault}
-use Rattle.base.specs.Fault.{fault, clear, unless, orElse, first, left}
+use Rattle.base.specs.Fault.{fault, clear, unless, orElse, Section, section, firstOf, left}
 use Rattle.base.specs.Refusal.{SIZE, SHORT, POINT, SWING, MODEL, VALUE}
 use Rattle.float.specs.Number.{isFinite, zero64}
 use Rattle.nl.specs.Expr.{Expr, Terms, none, more, count}
 use Rattle.nl.specs.File.{Model}
+use Rattle.lists.specs.Finite.{pointFault}
 use Rattle.model_reading.specs.Reading.{sharedLimit, Reading, yields, wrong, reading}
 use Rattle.model_reading.specs.Place.{size, placeOf}
 use Rattle.expression.specs.Value.{value, valuesOf, inRange, patterns}
@@ -44,12 +45,6 @@ module _ (point : List Float) where
       let objectiveAt = placeOf (count (M .rows)) rowsAt (M .rows) in
       orElse (sharedFault 0 [] (M .shared)) (orElse (rowsFault rowsAt values (M .rows)) (valueFault point values objectiveAt (M .objective)))
 
-  -- 13: "wrong length (place: columns), else first non-finite column"
-  unfoldable pub pointFault : ℕ → Fault
-  pointFault columns =
-      orElse (unless (eqb (length point) columns) (fault POINT columns))
-      (first (length point) (λ j. unless (isFinite (getD point j zero64)) (fault POINT j)))
-
 -- "more than 4,352 shared parts are refused as size (place: the first beginning word too many)"
 abbrev pub sizeFault : Model → Fault
 sizeFault M = unless (leb (count (M .shared)) sharedLimit) (fault SIZE (placeOf sharedLimit 0 (M .shared)))
@@ -60,11 +55,15 @@ roomFault lentShared lentRows M =
     orElse (unless (leb (count (M .shared)) lentShared) (fault SHORT 1)) (unless (leb (count (M .rows)) lentRows) (fault SHORT 2))
 
 module _ (columns : ℕ) (point : List Float) (lentShared lentRows : ℕ) where
-  -- "A file is read under 17, then .. size .., then 12 and 13 apply, then 14 .."
+  -- "A file is read under 17, then .. size .., then 12 and 13 apply, then 14 .." and 19
+  abbrev pub refusalSections : Reading → List Section
+  refusalSections (wrong p) = section (MODEL ∷ []) (fault MODEL p) ∷ []
+  refusalSections (yields M) =
+      section (SIZE ∷ []) (sizeFault M) ∷ section (SHORT ∷ []) (roomFault lentShared lentRows M)
+      ∷ section (POINT ∷ []) (pointFault point columns) ∷ section (SWING ∷ VALUE ∷ []) (valuesFault point M) ∷ []
+
   unfoldable pub refusal : Reading → Fault
-  refusal (wrong p) = fault MODEL p
-  refusal (yields M) =
-      orElse (sizeFault M) (orElse (roomFault lentShared lentRows M) (orElse (pointFault point columns) (valuesFault point M)))
+  refusal r = firstOf (refusalSections r)
 
 abbrev pub allShared : List Float → Reading → List Float
 allShared point (wrong p) = []

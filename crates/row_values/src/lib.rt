@@ -10,6 +10,8 @@ mod scan;
 
 use base::Fault;
 use base::refusal;
+use lists::copy_front;
+use lists::point_fault;
 use model_reading::row_counts;
 use scan::File;
 use scan::FileScan;
@@ -17,30 +19,13 @@ use scan::scan_file;
 use scan::scan_rows;
 ghost use mathlib.Core.Path.{_≡_};
 ghost use mathlib.Core.List.{_++_};
-ghost use Prim.Native.Nat.{_≤_};
-ghost use lib.ListN.{length, take, drop};
+ghost use lib.ListN.{length, drop};
 ghost use Rattle.base.specs.Fault.{orElse};
 ghost use Rattle.float.specs.Number.{zero64};
+ghost use Rattle.lists.specs.Finite.{pointFault};
 ghost use Rattle.model_reading.specs.Reading.{sharedLimit};
 ghost use Rattle.row_values.specs.Answer.{rowValues, sharedAfter, rowsAfter};
-ghost use Rattle.row_values.specs.contracts.Run.{roomOf, finiteFault, lengthFault, Settled, Writable, rowsOf};
-
-// The first non-finite number of the point.
-fn finite_point(point: &[f64]) -> Fault
-    ensures { λ f. ⌜ f ≡ finiteFault (now (point .entry)) ⌝ }
-{
-    let mut j: usize = 0;
-    while j < point.len() {
-        if !float::is_finite(point[j]) {
-            return Fault {
-                number: refusal::POINT,
-                place: j,
-            };
-        }
-        j += 1;
-    }
-    refusal::CLEAR
-}
+ghost use Rattle.row_values.specs.contracts.Run.{roomOf, lengthFault, Settled, Writable, rowsOf};
 
 // 12: the list for shared values, else that for row values.
 fn room_fault(shared: usize, rows: usize, lent_shared: usize, lent_rows: usize) -> Fault
@@ -86,15 +71,21 @@ fn length_fault(
 }
 
 // 12 and 13, then what the values have, of a file that was gone through.
-fn late_fault(file: File, point: &[f64], lent_shared: usize, lent_rows: usize) -> Fault
+fn late_fault(
+    file: File,
+    columns: usize,
+    point: &[f64],
+    lent_shared: usize,
+    lent_rows: usize,
+) -> Fault
     ensures { λ f. ⌜ f ≡ orElse (roomOf (file .shared) (file .rows) «lent_shared» «lent_rows»)
-        (orElse (finiteFault (now (point .entry))) (file .fault)) ⌝ }
+        (orElse (pointFault (now (point .entry)) columns) (file .fault)) ⌝ }
 {
     let room = room_fault(file.shared, file.rows, lent_shared, lent_rows);
     if room.number != 0 {
         return room;
     }
-    let wrong = finite_point(point);
+    let wrong = point_fault(point, columns);
     if wrong.number != 0 {
         return wrong;
     }
@@ -143,7 +134,7 @@ fn settled(
             failed(counts.fault)
         }
         FileScan::Worked(file) => {
-            let fault = late_fault(file, point, lent_shared, lent_rows);
+            let fault = late_fault(file, columns, point, lent_shared, lent_rows);
             File {
                 shared: file.shared,
                 rows: file.rows,
@@ -153,18 +144,6 @@ fn settled(
                 fault,
             }
         }
-    }
-}
-
-// The first `count` of the values, written.
-fn write_values(values: &[f64], count: usize, out: &mut [f64])
-    requires { ⌜ (count ≤ length (now values)) × (count ≤ length (now out)) ⌝ }
-    ensures { λ _. ⌜ now (out .exit) ≡ take count (now (values .entry)) ++ drop count (now (out .entry)) ⌝ }
-{
-    let mut i: usize = 0;
-    while i < count {
-        out[i] = values[i];
-        i += 1;
     }
 }
 
@@ -203,7 +182,7 @@ fn write_rows(
 {
     let rows = file.rows;
     if rows <= kept.len() {
-        write_values(kept, rows, out);
+        copy_front(kept, rows, out);
         return;
     }
     let s = scan_rows(
@@ -248,7 +227,7 @@ pub fn row_values(
     if file.fault.number != 0 {
         return refused(file.fault);
     }
-    write_values(&shared, file.shared, shared_out);
+    copy_front(&shared, file.shared, shared_out);
     write_rows(
         words,
         constants,

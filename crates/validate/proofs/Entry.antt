@@ -3,15 +3,13 @@ use mathlib.Core.Path.{_≡_, refl, ap, sym, _∙_}
 use mathlib.Core.List.{List}
 use Prim.Native.Nat.{ℕ, _+_, _*_, _≤_}
 use native.Mathlib.Omega.{arith}
-use lib.ListN.{length, take}
-use lib.Seq.{take-length}
-use lib.Dec.{eqb}
+use lib.ListN.{length}
 use lib.Ieee.{Float}
-use borrow.Author.Tests.{leb-true, eqb-true, eq-eqb, ne-eqb}
+use borrow.Author.Tests.{leb-true, ne-eqb}
 use Rattle.base.specs.declared.Fault.{Fault}
-use Rattle.base.specs.Fault.{clear, fault, unless}
+use Rattle.base.specs.Fault.{clear}
 use Rattle.base.specs.Order.{numbersOf}
-use Rattle.base.proofs.Firsts.{Clear, Spans, or-left, or-go, unless-true, unless-clear, spans-or, spans-wide}
+use Rattle.base.proofs.Firsts.{Clear, Spans, or-left, unless-true, spans-or, spans-wide}
 use Rattle.base.proofs.Order.{other-number}
 use Rattle.network.specs.Limits.{mostBuses, mostGenerators}
 use Rattle.network.specs.Network.{buses, branches, columns}
@@ -19,12 +17,11 @@ use Rattle.network.specs.declared.layout.Layout.{Layout}
 use Rattle.network.specs.Layout.{LaidWords, Laid}
 use Rattle.acopf.specs.declared.tallies.Tallies.{Tallies}
 use Rattle.acopf.specs.Tallies.{Tallied}
-use Rattle.lists.specs.Finite.{firstNonFinite}
+use Rattle.lists.specs.Finite.{pointFault}
+use Rattle.lists.proofs.Point as by-length
 use Rattle.acopf.specs.Factor.{networkSections, networkFault}
 use Rattle.acopf.proofs.Order.{network-refusal}
 use Rattle.derived.specs.contracts.Agree.{Ready}
-use Rattle.lists.specs.contracts.From.{nonFiniteFrom}
-use Rattle.lists.proofs.NonFinite.{non-finite-zero}
 use Rattle.derived.proofs.Ready.{ready}
 use Rattle.validate.specs.declared.Checked.{Checked}
 use Rattle.validate.specs.Check.{outputsNeeded, faultOutput, faultPoint, checkFault, checked, outputsAfter}
@@ -32,14 +29,10 @@ use Rattle.validate.specs.contracts.Verdict.{faultGiven, Cleared, refusa
 use Rattle.validate.proofs.Order.{output-spans, point-spans, swing-spans}
 use Rattle.validate.proofs.Verdict.{count-is, refused-is, list-kept, by-network, by-output, by-given}
 
--- 13, where the length is right
-pub point-rest : (ws : List ℕ) (xs x : List Float) (solver : Float) (count : ℕ) → count ≡ columns ws → length x ≡ count
-    → nonFiniteFrom 13 0 (take count x) ≡ faultPoint ws xs x solver
+-- 13, where the network has so many columns
+pub point-is : (ws : List ℕ) (xs x : List Float) (solver : Float) {n : ℕ} → n ≡ columns ws → pointFault x n ≡ faultPoint ws xs x solver
 unfolding faultPoint
-point-rest ws xs x solver count e h =
-    rw (← h, take-length, non-finite-zero 13 x)
-    (sym (or-go (unless (eqb (length x) (columns ws)) (fault 13 (columns ws))) (firstNonFinite 13 x)
-    (ap (λ f. f .number) (unless-clear (eqb (length x) (columns ws)) (fault 13 (columns ws)) (eq-eqb _ _ (h ∙ e))))))
+point-is ws xs x solver e = ap (pointFault x) e
 
 module _ {ws : List ℕ} {xs : List Float} {l : Layout} {t : Tallies} (T : Tallied ws xs t) where
   pub columns-are : LaidWords ws l → 2 * l .buses + 2 * l .generators + t .epigraphs ≡ columns ws
@@ -72,7 +65,7 @@ module _ (ws : List ℕ) (xs : List Float) where
 module _ (ws : List ℕ) (xs x : List Float) (solver : Float) where
   point-given : Clear (faultPoint ws xs x solver) → length x ≡ columns ws
   unfolding faultPoint
-  point-given c = eqb-true _ _ (unless-true _ 13 (columns ws) (omega arith) (or-left _ _ c))
+  point-given = by-length.point-given x (columns ws)
 
   output-room : (lent : ℕ) → Clear (faultOutput ws xs x solver lent) → 2 * buses ws + 4 * branches ws ≤ lent
   unfolding faultOutput

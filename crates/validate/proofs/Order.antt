@@ -1,19 +1,17 @@
 -- A refusal of the check is the first.
-use mathlib.Core.Path.{_≡_, refl, ap}
+use mathlib.Core.Path.{_≡_, refl}
 use mathlib.Core.List.{List, [], _∷_, _++_}
 use mathlib.Core.Bool.{not}
-use Prim.Native.Nat.{ℕ, _+_, _-_, _*_, _<_}
+use Prim.Native.Nat.{ℕ, _+_, _*_, _<_}
 use native.Mathlib.Omega.{arith}
 use lib.ListN.{length, getD, List·getD-append}
 use lib.Seq.{getD-append-add}
-use lib.Dec.{eqb}
 use lib.Ieee.{Float, nan, lt}
-use borrow.Author.Tests.{eq-eqb, ne-eqb}
-use Rattle.base.specs.Fault.{fault, unless, orElse, firstOf}
+use Rattle.base.specs.Fault.{fault, orElse, firstOf}
 use Rattle.base.specs.Order.{IsFirst}
-use Rattle.base.proofs.Firsts.{Clear, Spans, spans-unless, spans-or, spans-first, or-go, FirstFail, first-fails, unless-clear}
+use Rattle.base.proofs.Firsts.{Clear, Spans, spans-unless, spans-first, FirstFail, first-fails}
 use Rattle.base.proofs.Order.{AllGive, gives-one, give-append, first-append, refusal-is-first}
-use Rattle.lists.specs.Finite.{firstNonFinite}
+use Rattle.lists.proofs.Point as by-length
 use Rattle.acopf.specs.Factor.{networkSections, networkFault}
 use Rattle.lists.proofs.NonFinite.{non-finite-spans, non-finite-place}
 use Rattle.acopf.proofs.Order.{network-give}
@@ -31,7 +29,7 @@ module _ (ws : List ℕ) (xs x : List Float) (solver : Float) where
 
   pub point-spans : Spans 13 13 (faultPoint ws xs x solver)
   unfolding faultPoint
-  point-spans = spans-or (spans-unless _ 13 _ (omega arith) (omega arith)) (non-finite-spans 13 x)
+  point-spans = by-length.point-spans x (columns ws)
 
   pub swing-spans : Spans 14 14 (faultSwing ws xs x solver)
   unfolding faultSwing
@@ -68,14 +66,12 @@ module _ (ws : List ℕ) (xs x : List Float) (solver : Float) where
   -- 13, at the right length: the first non-finite column
   pub point-place : length x ≡ columns ws → (Clear (faultPoint ws xs x solver) → ⊥) → FirstFail (length x) (λ j. isFinite (getD x j nan)) 13 (λ j. j) (faultPoint ws xs x solver)
   unfolding faultPoint
-  point-place e c =
-      let p = or-go (unless (eqb (length x) (columns ws)) (fault 13 (columns ws))) (firstNonFinite 13 x) (ap (λ f. f .number) (unless-clear (eqb (length x) (columns ws)) (fault 13 (columns ws)) (eq-eqb _ _ e))) in
-      rw p (non-finite-place 13 x (omega arith) (λ z. c (rw p z)))
+  point-place = by-length.point-place x (columns ws)
 
   -- 13, at another length: the number of columns
   pub length-place : (length x ≡ columns ws → ⊥) → faultPoint ws xs x solver ≡ fault 13 (columns ws)
-  unfolding faultPoint orElse unless
-  length-place ne = rw (ne-eqb (length x) (columns ws) ne)
+  unfolding faultPoint
+  length-place = by-length.length-place x (columns ws)
 
   -- 14: the first va outside, its column
   pub swing-place : (Clear (faultSwing ws xs x solver) → ⊥) → FirstFail (buses ws) (λ i. angleRight (va ws x i)) 14 (λ i. vaColumn ws i) (faultSwing ws xs x solver)

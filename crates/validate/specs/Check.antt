@@ -6,12 +6,12 @@ use lib.ListN.{length, getD, replicate}
 use lib.Dec.{eqb, leb, ltb}
 use lib.Ieee.{Float, nan, binary64, ofBits, lt}
 use Rattle.base.specs.declared.Fault.{Fault}
-use Rattle.base.specs.Fault.{fault, clear, unless, orElse, first, Section, section, firstOf, left}
+use Rattle.base.specs.Fault.{fault, clear, unless, first, Section, section, firstOf, left}
 use Rattle.base.specs.Refusal.{SHORT, POINT, SWING, DERIVED, RESIDUAL}
 use Rattle.float.specs.Number.{zero64}
 use Rattle.network.specs.Network.{buses, branches, columns, vaColumn}
 use Rattle.bounds.specs.Bounds.{angleRight}
-use Rattle.lists.specs.Finite.{firstNonFinite}
+use Rattle.lists.specs.Finite.{firstNonFinite, pointFault}
 use Rattle.acopf.specs.Factor.{networkSections, networkFault}
 use Rattle.validate.specs.declared.Checked.{Checked}
 use Rattle.derived.specs.Outputs.{va, flows, outputs, ownObjective}
@@ -51,7 +51,7 @@ module _ (ws : List ℕ) (xs x : List Float) (solver : Float) where
 
   -- 13 point: "wrong length (place: columns), else first non-finite column"
   unfoldable pub faultPoint : Fault
-  faultPoint = orElse (unless (eqb (length x) (columns ws)) (fault POINT (columns ws))) (firstNonFinite POINT x)
+  faultPoint = pointFault x (columns ws)
 
   -- 14 swing: "va outside -1,024 to 1,024; column"
   unfoldable pub faultSwing : Fault

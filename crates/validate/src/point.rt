@@ -2,11 +2,11 @@
 use acopf::Tallies;
 use base::Fault;
 use base::refusal;
-use lists::first_non_finite;
+use lists::point_fault;
 use network::Layout;
 ghost use mathlib.Core.Path.{_≡_};
 ghost use mathlib.Core.List.{List};
-ghost use Prim.Native.Nat.{ℕ, _+_, _*_, _<_, _≤_};
+ghost use Prim.Native.Nat.{ℕ, _+_, _*_, _≤_};
 ghost use lib.Ieee.{Float};
 ghost use lib.ListN.{length};
 ghost use Rattle.network.specs.Limits.{mostBuses, mostGenerators};
@@ -28,22 +28,6 @@ pub(crate) fn output_fault(lent: usize, count: usize) -> Fault
         };
     }
     refusal::CLEAR
-}
-
-// 13, where the network has `needed` columns.
-fn point_fault(point: &[f64], needed: usize) -> Fault
-    requires { ⌜ needed < 0xffff_ffff_ffff_ffff ⌝ }
-    ensures { λ r. ⌜ ((ws : List ℕ) (xs : List Float) (solver : Float) → needed ≡ columns ws
-        → r ≡ faultPoint ws xs (now (point .entry)) solver)
-        × (r .number ≡ 0 → length (now (point .entry)) ≡ needed) ⌝ }
-{
-    if point.len() != needed {
-        return Fault {
-            number: refusal::POINT,
-            place: needed,
-        };
-    }
-    first_non_finite(point, needed, refusal::POINT, 0)
 }
 
 // 14: va is the first n columns.

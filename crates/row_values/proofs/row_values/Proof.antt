@@ -25,11 +25,11 @@ returns c =
     let s = c .before .before .before .before .before .settled in
     refused-answer (a .words .now) (a .constants .now) (a .columns) (a .point .now) (a .shared-out .now) (a .rows-out .now) _ _ _ (s .ensures) _ (c .before .if1 .taken) (c .refused .ensures)
 
-slice-aggregate-write-values : tie.Need-slice-aggregate-write-values
-slice-aggregate-write-values c = search needs
+slice-aggregate-copy-front : tie.Need-slice-aggregate-copy-front
+slice-aggregate-copy-front c = search needs
 
-write-values-requires : tie.Need-write-values-requires
-write-values-requires c κs =
+copy-front-requires : tie.Need-copy-front-requires
+copy-front-requires c κs =
     let s = c .before .before .before .before .before .before .settled in
     let accepted = s .ensures .accepts (c .before .before .if1 .left) in
     (omega (arith, accepted .1 .fits, s .kept .1 .1 .1 .1 .1 .1 .0), accepted .0)
@@ -66,7 +66,7 @@ returns-2 c =
     let a = c .before .before .before .before .before .before .before .before .before .before .before .before .before .before .before .before .before .before .before .before .before .before .before .args in
     let s = c .before .before .before .before .before .before .before .before .before .before .before .before .before .before .before .settled in
     let is-clear = c .before .before .before .before .before .before .before .before .before .before .before .if1 .left in
-    let first = c .before .before .before .before .before .before .before .before .write-values .ensures in
+    let first = c .before .before .before .before .before .before .before .before .copy-front .ensures in
     accepted-answer (a .words .now) (a .constants .now) (a .columns) (a .point .now) (a .shared-out .now) (a .rows-out .now) _ _ _ (s .ensures) _ _ is-clear (s .kept .1 .1 .1 .1 .1 .1 .0) first (c .before .before .write-rows .ensures)
 
 pub row-values-spec : {M : Type 1} → statement M
@@ -78,8 +78,8 @@ row-values-spec =
     settled-requires
     refused-requires
     returns
-    slice-aggregate-write-values
-    write-values-requires
+    slice-aggregate-copy-front
+    copy-front-requires
     array-share-prefix-shared
     slice-aggregate-write-rows
     slice-aggregate-write-rows-2

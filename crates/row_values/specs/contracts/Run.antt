@@ -1,15 +1,15 @@
 -- A file read and worked out in one go, part by part, by the places of their beginning words.
-use Prim.Native.Nat.{ℕ, zero, suc, _+_, _≤_, _<_}
+use Prim.Native.Nat.{ℕ, zero, suc, _≤_, _<_}
 use mathlib.Core.Path.{_≡_}
 use mathlib.Core.Bool.{cond}
 use mathlib.Core.List.{List, [], _∷_, _++_}
 use lib.Dec.{leb}
-use lib.ListN.{length, getD, take, drop}
+use lib.ListN.{length, take, drop}
 use lib.Ieee.{Float}
 use Rattle.base.specs.declared.Fault.{Fault}
-use Rattle.base.specs.Fault.{fault, clear, unless, orElse, first}
+use Rattle.base.specs.Fault.{fault, clear, unless, orElse}
 use Rattle.base.specs.Refusal.{SHORT, POINT, SWING, VALUE}
-use Rattle.float.specs.Number.{isFinite, zero64}
+use Rattle.float.specs.Number.{isFinite}
 use Rattle.nl.specs.declared.Read.the-variants.{Went, Wrong}
 use Rattle.nl.specs.declared.Parts.{Parts}
 use Rattle.nl.specs.declared.Parts.the-variants.{Stop, Bad}
@@ -34,10 +34,6 @@ use Rattle.row_values.specs.Answer.{valueFault, sharedValues, allShared,
 -- 12, by the numbers of shared parts and rows
 abbrev pub roomOf : ℕ → ℕ → ℕ → ℕ → Fault
 roomOf shared rows lentShared lentRows = orElse (unless (leb shared lentShared) (fault SHORT 1)) (unless (leb rows lentRows) (fault SHORT 2))
-
--- the first number of a point that is not finite
-abbrev pub finiteFault : List Float → Fault
-finiteFault point = first (length point) (λ j. unless (isFinite (getD point j zero64)) (fault POINT j))
 
 -- "14 first within one part", of what was worked out
 abbrev pub scannedFault : Scanned → ℕ → Fault

@@ -1,7 +1,9 @@
 use native.Mathlib.Omega.{arith}
 use mathlib.Core.Path.{ap, sym, _∙_}
 use Rattle.base.proofs.Firsts.{or-go, or-stop}
-use Rattle.validate.proofs.Entry.{columns-are}
+use borrow.Author.Needs.{needs}
+use Rattle.lists.proofs.Point.{point-given}
+use Rattle.validate.proofs.Entry.{columns-are, point-is}
 use Rattle.validate.proofs.point.given_fault.Statement.{statement}
 use Rattle.validate.proofs.point.given_fault.Tie as tie
 
@@ -18,23 +20,23 @@ add-columns-2 : tie.Need-add-columns-2
 add-columns-2 c = omega (arith, c .before .before .before .before .pre .0, c .before .before .before .before .pre .1, c .before .before .before .before .pre .2)
 
 point-fault-requires : tie.Need-point-fault-requires
-point-fault-requires c κs =
-    let pre = c .before .before .before .before .pre in
-    omega (arith, pre .0, pre .1, pre .2)
+point-fault-requires c κs = search needs
 
 returns : tie.Need-returns
 returns c =
     λ ws xs solver L T.
-    let is = c .before .before .point-fault .ensures .0 ws xs solver (columns-are T L) in
+    let is = c .before .before .point-fault .ensures ∙ point-is ws xs _ solver (columns-are T L) in
     is ∙ sym (or-stop _ _ (λ z. c .if1 .taken (ap (λ f. f .number) is ∙ z)))
 
 swing-fault-requires : tie.Need-swing-fault-requires
-swing-fault-requires c κs = omega (arith, c .before .before .point-fault .ensures .1 (c .if1 .left))
+swing-fault-requires c κs =
+    let n = point-given _ _ (ap (λ f. f .number) (sym (c .before .before .point-fault .ensures)) ∙ c .if1 .left) in
+    omega (arith, n)
 
 returns-2 : tie.Need-returns-2
 returns-2 c =
     λ ws xs solver L T.
-    let is = c .before .before .before .point-fault .ensures .0 ws xs solver (columns-are T L) in
+    let is = c .before .before .before .point-fault .ensures ∙ point-is ws xs _ solver (columns-are T L) in
     let clear = ap (λ f. f .number) (sym is) ∙ c .before .if1 .left in
     c .swing-fault .ensures ws xs solver (ap (λ z. z .buses) (L .is)) ∙ sym (or-go _ _ clear)
 
