@@ -6,19 +6,19 @@ use mathlib.Core.List.{List, [], _∷_, _++_}
 use Prim.Native.Nat.{ℕ, zero, suc, _+_, _≤_}
 use lib.Dec.{eqb, leb}
 use lib.ListN.{length, getD}
-use lib.Ieee.{Float}
+use lib.Ieee.{Float, nan}
 use borrow.Author.Tests.{le-leb}
 use Rattle.base.specs.declared.Fault.{Fault}
 use Rattle.base.specs.Fault.{fault, unless, orElse, first}
 use Rattle.base.specs.Loop.{loop}
 use Rattle.base.specs.Refusal.{SHORT, POINT, SWING, VALUE}
-use Rattle.float.specs.Number.{isFinite, zero64}
+use Rattle.float.specs.Number.{isFinite}
 use Rattle.nl.specs.Expr.{Expr, Terms, none, more, count}
 use Rattle.nl.specs.File.{Model}
 use Rattle.model_reading.specs.Place.{size}
 use Rattle.model_reading.specs.Reading.{sharedLimit, yields}
 use Rattle.expression.specs.Value.{value, inRange}
-use Rattle.lists.specs.Finite.{pointFault}
+use Rattle.lists.specs.Finite.{firstNonFinite, pointFault}
 use Rattle.row_values.specs.Answer.{valueFault, sharedFault, rowsFault, valuesFault, roomFault, refusal}
 use Rattle.compiled_values.specs.Spared.{SharedSpared, RowsSpared, Spared}
 
@@ -47,9 +47,9 @@ module _ (P : ℕ → Type 0) (none-refused : P 0) where
       (unless-has _ SHORT 1 h) (unless-has _ SHORT 2 h)
 
   pub point-has : (point : List Float) (columns : ℕ) → P POINT → P (pointFault point columns .number)
-  unfolding pointFault
+  unfolding pointFault firstNonFinite
   point-has point columns h =
-      or-has (unless (eqb (length point) columns) (fault POINT columns)) (first (length point) (λ j. unless (isFinite (getD point j zero64)) (fault POINT j)))
+      or-has (unless (eqb (length point) columns) (fault POINT columns)) (first (length point) (λ j. unless (isFinite (getD point j nan)) (fault POINT j)))
       (unless-has _ POINT columns h) (first-has (length point) _ (λ j. unless-has _ POINT j h))
 
   -- 14 has it, unless it spares what is worked out
