@@ -31,6 +31,7 @@ use Rattle.reading.specs.Written.{frontWords, frontBits}
 use Rattle.reading.proofs.Reading.{compiled-reads}
 use Rattle.model_reading.specs.Reading.{sharedLimit, yields}
 use Rattle.model_reading.proofs.Reading.{yields-exactly}
+use Rattle.expression.proofs.Lists.{any-default}
 use Rattle.expression.specs.Value.{value}
 use Rattle.lists.specs.Finite.{pointFault}
 use Rattle.row_values.specs.Answer.{valuesFault, roomFault, refusal, allShared, allRows, objectiveValue}
@@ -39,7 +40,7 @@ use Rattle.compiled_values.specs.Spared.{AnglesRight, Spared}
 use Rattle.compiled_values.proofs.Difference.{nan-not-right}
 use Rattle.compiled_values.proofs.SharedParts.{length-values}
 use Rattle.compiled_values.proofs.Numbers.{or-has, room-has, point-has, values-has, refusal-is}
-use Rattle.compiled_values.proofs.ModelValues.{any-default, row-values, row-value, reference-value, model-spared}
+use Rattle.compiled_values.proofs.ModelValues.{row-values, row-value, reference-value, model-spared}
 
 module _ (ws : List ℕ) (xs : List Float) (lent : List ℕ) (e : compiled ws xs lent .fault .number ≡ 0) where
   network-laid : LaidWords ws (layoutOf ws)
@@ -81,56 +82,56 @@ module _ (ws : List ℕ) (xs : List Float) (lent : List ℕ) (e : compiled ws xs
           (or-has P zero (pointFault point (columns ws)) (valuesFault point (model ws xs)) (point-has P zero point (columns ws) wrong) (values-has P zero point infinite (model ws xs) swing)))
 
       -- "no accepted network's file gets 17 or 2 here"
-      pub never-17 : ¬ (fileRefusal ws xs lent heldWords heldConstants point lentShared lentRows .number ≡ MODEL)
-      never-17 = number-has (λ n. ¬ (n ≡ MODEL)) (λ q. omega arith) (λ q. omega arith) (λ q. omega arith) (λ q. omega arith) (inr (λ q. omega arith))
+      pub compiled-never-17 : ¬ (fileRefusal ws xs lent heldWords heldConstants point lentShared lentRows .number ≡ MODEL)
+      compiled-never-17 = number-has (λ n. ¬ (n ≡ MODEL)) (λ q. omega arith) (λ q. omega arith) (λ q. omega arith) (λ q. omega arith) (inr (λ q. omega arith))
 
-      pub never-2 : ¬ (fileRefusal ws xs lent heldWords heldConstants point lentShared lentRows .number ≡ SIZE)
-      never-2 = number-has (λ n. ¬ (n ≡ SIZE)) (λ q. omega arith) (λ q. omega arith) (λ q. omega arith) (λ q. omega arith) (inr (λ q. omega arith))
+      pub compiled-never-2 : ¬ (fileRefusal ws xs lent heldWords heldConstants point lentShared lentRows .number ≡ SIZE)
+      compiled-never-2 = number-has (λ n. ¬ (n ≡ SIZE)) (λ q. omega arith) (λ q. omega arith) (λ q. omega arith) (λ q. omega arith) (inr (λ q. omega arith))
 
       -- "so that no difference of two accepted angles is refused"
-      pub never-14 : AnglesRight ws point → ¬ (fileRefusal ws xs lent heldWords heldConstants point lentShared lentRows .number ≡ SWING)
-      never-14 right = number-has (λ n. ¬ (n ≡ SWING)) (λ q. omega arith) (λ q. omega arith) (λ q. omega arith) (λ q. omega arith) (inl (compiled-spared point right))
+      pub compiled-never-14 : AnglesRight ws point → ¬ (fileRefusal ws xs lent heldWords heldConstants point lentShared lentRows .number ≡ SWING)
+      compiled-never-14 right = number-has (λ n. ¬ (n ≡ SWING)) (λ q. omega arith) (λ q. omega arith) (λ q. omega arith) (λ q. omega arith) (inl (compiled-spared point right))
 
     -- 3. its values at a point, by the shared parts, rows and objective of condition 2
     module _ (point : List Float) where
-      pub shared-are : allShared point (fileReading ws xs lent heldWords heldConstants) ≡ partValues ws xs point
+      pub shared-values-are : allShared point (fileReading ws xs lent heldWords heldConstants) ≡ partValues ws xs point
       unfolding model
-      shared-are = ap (allShared point) compiled-yields
+      shared-values-are = ap (allShared point) compiled-yields
 
-      pub rows-are : allRows point (fileReading ws xs lent heldWords heldConstants) ≡ map (λ r. value point (partValues ws xs point) (r .expression)) (rows ws xs)
+      pub row-values-are : allRows point (fileReading ws xs lent heldWords heldConstants) ≡ map (λ r. value point (partValues ws xs point) (r .expression)) (rows ws xs)
       unfolding model
-      rows-are = ap (allRows point) compiled-yields ∙ row-values ws xs point (partValues ws xs point)
+      row-values-are = ap (allRows point) compiled-yields ∙ row-values ws xs point (partValues ws xs point)
 
-      pub objective-is : objectiveValue point (fileReading ws xs lent heldWords heldConstants) ≡ value point (partValues ws xs point) (objective ws xs)
+      pub objective-value-is : objectiveValue point (fileReading ws xs lent heldWords heldConstants) ≡ value point (partValues ws xs point) (objective ws xs)
       unfolding model
-      objective-is = ap (objectiveValue point) compiled-yields
+      objective-value-is = ap (objectiveValue point) compiled-yields
 
       -- row r, from 0 (whatever d, which stands for a row past the last)
-      pub row-is : (r : ℕ) (d : Row) → r < length (rows ws xs)
+      pub row-value-is : (r : ℕ) (d : Row) → r < length (rows ws xs)
           → getD (allRows point (fileReading ws xs lent heldWords heldConstants)) r zero64 ≡ value point (partValues ws xs point) (getD (rows ws xs) r d .expression)
       unfolding model
-      row-is r d h = ap (λ m. getD (allRows point m) r zero64) compiled-yields ∙ row-value ws xs point (partValues ws xs point) r d h
+      row-value-is r d h = ap (λ m. getD (allRows point m) r zero64) compiled-yields ∙ row-value ws xs point (partValues ws xs point) r d h
 
       -- "for a reference's row the value is that va": the references' rows follow the two balances of each bus
-      pub reference-is : (j : ℕ) → j < references ws
+      pub reference-value-is : (j : ℕ) → j < references ws
           → getD (allRows point (fileReading ws xs lent heldWords heldConstants)) (2 * buses ws + j) zero64 ≡ getD point (vaColumn ws (referred ws j)) zero64
       unfolding model
-      reference-is j h = ap (λ m. getD (allRows point m) (2 * buses ws + j) zero64) compiled-yields ∙ reference-value ws xs point (partValues ws xs point) j h
+      reference-value-is j h = ap (λ m. getD (allRows point m) (2 * buses ws + j) zero64) compiled-yields ∙ reference-value ws xs point (partValues ws xs point) j h
 
       -- they are what row_values writes where it refuses nothing: so many as compile's counts say
       module _ (beforeShared beforeRows : List Float) (z : fileRefusal ws xs lent heldWords heldConstants point (length beforeShared) (length beforeRows) .number ≡ 0) where
         pub shared-written : take (compiled ws xs lent .shared) (fileSharedAfter ws xs lent heldWords heldConstants point beforeShared beforeRows) ≡ partValues ws xs point
         shared-written =
             left-front (fileRefusal ws xs lent heldWords heldConstants point (length beforeShared) (length beforeRows)) (allShared point (fileReading ws xs lent heldWords heldConstants)) beforeShared
-            (compiled ws xs lent .shared) z (rw shared-are (counted ws xs lent e .shared ∙ omega (arith, length-values point [] (sharedParts ws xs), length-shared ws xs)))
-            ∙ shared-are
+            (compiled ws xs lent .shared) z (rw shared-values-are (counted ws xs lent e .shared ∙ omega (arith, length-values point [] (sharedParts ws xs), length-shared ws xs)))
+            ∙ shared-values-are
 
         pub rows-written : take (compiled ws xs lent .rows) (fileRowsAfter ws xs lent heldWords heldConstants point beforeShared beforeRows)
             ≡ map (λ r. value point (partValues ws xs point) (r .expression)) (rows ws xs)
         rows-written =
             left-front (fileRefusal ws xs lent heldWords heldConstants point (length beforeShared) (length beforeRows)) (allRows point (fileReading ws xs lent heldWords heldConstants)) beforeRows
-            (compiled ws xs lent .rows) z (rw rows-are (counted ws xs lent e .row-lower ∙ lower-rows ws xs ∙ sym (length-map (rows ws xs) _)))
-            ∙ rows-are
+            (compiled ws xs lent .rows) z (rw row-values-are (counted ws xs lent e .row-lower ∙ lower-rows ws xs ∙ sym (length-map (rows ws xs) _)))
+            ∙ row-values-are
 
 -- a point's angles as the check reads them, where a column that is not there is a NaN
 pub check-angles : (ws : List ℕ) (point : List Float) → ((i : ℕ) → i < buses ws → angleRight (number point (vaColumn ws i)) ≡ true) → AnglesRight ws point

@@ -13,15 +13,11 @@ use Rattle.network.specs.Network.{buses, references, referred, vaColumn}
 use Rattle.acopf.specs.Build.{terms}
 use Rattle.acopf.specs.Rows.{Row, pBalanceRow, qBalanceRow, referenceRow, rows}
 use Rattle.acopf.specs.Model.{model}
+use Rattle.expression.proofs.Lists.{any-default}
 use Rattle.expression.specs.Value.{value, valuesOf}
 use Rattle.compiled_values.specs.Spared.{AnglesRight, RowsSpared, Spared}
 use Rattle.compiled_values.proofs.TrigFree.{RowInRange, rows-in, objective-in}
 use Rattle.compiled_values.proofs.SharedParts.{shared-spared}
-
-pub any-default : {A : Type 0} (l : List A) (i : ℕ) (d d′ : A) → i < length l → getD l i d ≡ getD l i d′
-any-default [] i d d′ h = absurd (omega arith)
-any-default (x ∷ l) zero d d′ h = refl
-any-default (x ∷ l) (suc i) d d′ h = any-default l i d d′ (omega arith)
 
 module _ (ws : List ℕ) (xs point values : List Float) where
   abbrev ofRow : Row → Float

@@ -28,7 +28,7 @@ use Rattle.model_reading.specs.Reading.{sharedLimit, layoutAfter, fileLa
 use Rattle.model_reading.proofs.Standing.{size-any, part-words, Standing, parts-stand, parse-parts}
 
 -- a layout with these numbers and places is that of a file that stands for the model that is parsed there
-pub record ReadsAs (ws cs : List ℕ) (columns n rows at objective extra : ℕ) : Type 0 where
+pub record ParsedAs (ws cs : List ℕ) (columns n rows at objective extra : ℕ) : Type 0 where
   pub stands : StandsFor ws cs columns (modelAt ws cs n rows at objective)
   pub shared-count : count (modelAt ws cs n rows at objective .shared) ≡ n
   pub rows-count : count (modelAt ws cs n rows at objective .rows) ≡ rows
@@ -133,7 +133,7 @@ module _ (ws cs : List ℕ) (columns : ℕ) (M : Model) (S : StandsFor ws cs col
   unfolding reading
   yields-it = rw layout-is (ap yields model-is)
 
-  reads-as : ReadsAs ws cs columns (count (M .shared)) (count (M .rows)) (rowsPlace M) (objectivePlace M) (extraPlace M)
+  reads-as : ParsedAs ws cs columns (count (M .shared)) (count (M .rows)) (rowsPlace M) (objectivePlace M) (extraPlace M)
   reads-as = record {
     stands = subst (StandsFor ws cs columns) (sym model-is) S;
     shared-count = ap (λ N. count (N .shared)) model-is;
@@ -161,10 +161,10 @@ layout-stands ws cs columns n rows at objective extra e = file-sound ws cs colum
     go (passed s a b u v m c d x y i j first second third g) = λ h. never-both (ltb sharedLimit m) m x y (sym (ap (λ f. f .fault .number) g) ∙ h)
 
 abbrev LayoutReads : List ℕ → List ℕ → ℕ → FileLayout → Type 0
-LayoutReads ws cs columns (Passed n rows at objective extra) = ReadsAs ws cs columns n rows at objective extra
+LayoutReads ws cs columns (Passed n rows at objective extra) = ParsedAs ws cs columns n rows at objective extra
 LayoutReads ws cs columns (Failed p) = Unit {0}
 
-pub layout-sound : (ws cs : List ℕ) (columns n rows at objective extra : ℕ) → fileLayout ws (length cs) columns ≡ Passed n rows at objective extra → ReadsAs ws cs columns n rows at objective extra
+pub layout-sound : (ws cs : List ℕ) (columns n rows at objective extra : ℕ) → fileLayout ws (length cs) columns ≡ Passed n rows at objective extra → ParsedAs ws cs columns n rows at objective extra
 layout-sound ws cs columns n rows at objective extra e =
     let (M, S) = layout-stands ws cs columns n rows at objective extra e in
     subst (LayoutReads ws cs columns) (sym (layout-is ws cs columns M S) ∙ e) (reads-as ws cs columns M S)

@@ -24,7 +24,7 @@ use Rattle.model_reading.specs.Place.{size, placeOf}
 use Rattle.model_reading.specs.Reading.{sharedLimit, fileLayout, modelAt, Reading, yields, wrong, reading}
 use Rattle.model_reading.specs.Counts.{countsOf, rowCounts}
 use Rattle.model_reading.proofs.Standing.{Standing}
-use Rattle.model_reading.proofs.Reading.{ReadsAs, layout-sound}
+use Rattle.model_reading.proofs.Reading.{ParsedAs, layout-sound}
 use Rattle.model_reading.proofs.RowCounts.{counts-wrong, counts-yield, counts-size}
 use Rattle.expression.specs.Value.{value, valuesOf, inRange, patterns}
 use Rattle.row_values.specs.declared.RowValues.{RowValues}
@@ -63,7 +63,7 @@ module _ (ws : List ℕ) (xs point : List Float) where
   rows-standing values none at h = refl
   rows-standing values (more e ts) at h = rw (h .0) (ap (orElse (valueFault point values at e)) (rows-standing values ts (at + 1 + size e) (h .1)))
 
-  module _ (columns n rows at objective extra : ℕ) (R : ReadsAs ws (patterns xs) columns n rows at objective extra) where
+  module _ (columns n rows at objective extra : ℕ) (R : ParsedAs ws (patterns xs) columns n rows at objective extra) where
     abbrev M : Model
     M = modelAt ws (patterns xs) n rows at objective
 
@@ -193,7 +193,9 @@ module _ (ws : List ℕ) (xs : List Float) (columns : ℕ) (point : List Float) 
         let passed = ap (fileLayout ws (length xs)) (sym l) ∙ F .reads in
         let s = layout-sound ws (patterns xs) columns (f .shared) (f .rows) (f .«rows_at») (F .objective-at) (F .extra)
         (ap (λ k. fileLayout ws k columns) (as-many ws xs point columns) ∙ passed) in
-        let faults = F .faults ∙ ap (λ v. orElse (sharedPass ws xs point (f .shared) 0 []) (orElse (rowsPass ws xs point v (f .rows) (f .«rows_at»)) (partFault ws xs point v (F .objective-at)))) (F .shared-are)
+        let faults =
+        F .faults ∙ ap (λ v. orElse (sharedPass ws xs point (f .shared) 0 []) (orElse (rowsPass ws xs point v (f .rows) (f .«rows_at»)) (partFault ws xs point v (F .objective-at))))
+        (F .shared-are)
         ∙ faults-are ws xs point columns (f .shared) (f .rows) (f .«rows_at») (F .objective-at) (F .extra) s in
         let y = read-passed ws xs point columns (f .shared) (f .rows) (f .«rows_at») (F .objective-at) (F .extra) passed in
         let w = F .rows-are in

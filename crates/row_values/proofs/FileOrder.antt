@@ -12,7 +12,8 @@ use Rattle.base.specs.Fault.{clear, orElse}
 use Rattle.base.specs.Order.{member}
 use Rattle.base.specs.Refusal.{SWING, VALUE}
 use Rattle.base.specs.Word.{word}
-use Rattle.base.proofs.Firsts.{Clear, Proper, or-go, or-stop}
+use Rattle.base.proofs.Firsts.{Clear, or-go, or-stop}
+use Rattle.base.proofs.Scans.{or-none, or-assoc}
 use Rattle.base.proofs.Order.{other-number}
 use Rattle.float.specs.Number.{isFinite}
 use Rattle.nl.specs.Expr.{Expr, Terms, none, more, count, next, words}
@@ -123,31 +124,17 @@ module _ (point : List Float) where
         answer = or-stop (faultOf p) (firstFault ps) (eqb-false _ 0 e);
       }
 
-  or-clear : (f : Fault) → Proper f → orElse f clear ≡ f
-  or-clear f h = go (eqb (f .number) 0) refl
-    where
-      go : (b : Bool) → eqb (f .number) 0 ≡ b → orElse f clear ≡ f
-      go true e = let z = eqb-true _ 0 e in or-go f clear z ∙ sym (h z)
-      go false e = or-stop f clear (eqb-false _ 0 e)
-
-  or-assoc : (f g h : Fault) → orElse f (orElse g h) ≡ orElse (orElse f g) h
-  or-assoc f g h = go (eqb (f .number) 0) refl
-    where
-      go : (b : Bool) → eqb (f .number) 0 ≡ b → orElse f (orElse g h) ≡ orElse (orElse f g) h
-      go true e = let z = eqb-true _ 0 e in rw (or-go f (orElse g h) z, or-go f g z)
-      go false e = let ne = eqb-false _ 0 e in rw (or-stop f (orElse g h) ne, or-stop f g ne, or-stop f h ne)
-
   shared-first : (ts : Terms) (i at : ℕ) (values : List Float) (later : List Part) → firstFault (sharedParts i at values ts ++ later) ≡ orElse (sharedFault point at values ts) (firstFault later)
   shared-first none i at values later = sym (or-go clear (firstFault later) refl)
   shared-first (more e ts) i at values later =
       ap (orElse (valueFault point values at e)) (shared-first ts (i + 1) (at + 1 + size e) (values ++ (value point values e ∷ [])) later)
-      ∙ or-assoc (valueFault point values at e) (sharedFault point (at + 1 + size e) (values ++ (value point values e ∷ [])) ts) (firstFault later)
+      ∙ sym (or-assoc (valueFault point values at e) (sharedFault point (at + 1 + size e) (values ++ (value point values e ∷ [])) ts) (firstFault later))
 
   rows-first : (values : List Float) (ts : Terms) (i at : ℕ) (later : List Part) → firstFault (rowParts i at values ts ++ later) ≡ orElse (rowsFault point at values ts) (firstFault later)
   rows-first values none i at later = sym (or-go clear (firstFault later) refl)
   rows-first values (more e ts) i at later =
       ap (orElse (valueFault point values at e)) (rows-first values ts (i + 1) (at + 1 + size e) later)
-      ∙ or-assoc (valueFault point values at e) (rowsFault point (at + 1 + size e) values ts) (firstFault later)
+      ∙ sym (or-assoc (valueFault point values at e) (rowsFault point (at + 1 + size e) values ts) (firstFault later))
 
   values-are : (M : Model) → valuesFault point M ≡ firstFault (partsOf M)
   unfolding valuesFault
@@ -156,7 +143,7 @@ module _ (point : List Float) where
       let last = part 12 0 (objectiveAt M) values (M .objective) in
       sym (shared-first (M .shared) 0 0 [] _
       ∙ ap (orElse (sharedFault point 0 [] (M .shared))) (rows-first values (M .rows) 0 (rowsAt M) (last ∷ [])
-      ∙ ap (orElse (rowsFault point (rowsAt M) values (M .rows))) (or-clear (faultOf last) (value-proper point values (objectiveAt M) (M .objective)))))
+      ∙ ap (orElse (rowsFault point (rowsAt M) values (M .rows))) (or-none (faultOf last) (value-proper point values (objectiveAt M) (M .objective)))))
 
   pub values-first : (M : Model) → (Clear (valuesFault point M) → ⊥) → FirstPart (partsOf M) (valuesFault point M)
   values-first M c =

@@ -146,7 +146,10 @@ module _ (ws : List ℕ) (xs point : List Float) where
           let r = A .rows in
           let R = A .its-rows in
           let E = A .its-end in
-          let whole = reads-on _ (sym (end-right ws (length xs) (length point) (length values) (run .at) (run .next) (0 - 1) _ refl (r .count) (r .at) (r .next) (R .start) (R .end) (R .reads) _ refl (E .end) (E .next) (E .reads))) in
+          let whole =
+          reads-on _
+          (sym (end-right ws (length xs) (length point) (length values) (run .at) (run .next) (0 - 1) _ refl (r .count) (r .at) (r .next) (R .start) (R .end) (R .reads) _ refl (E .end) (E .next) (E .reads)))
+          in
           subst (FileRun ws xs point array before after) (sym (A .is)) (record {
             objective-at = r .at;
             extra = 0 - 1;

@@ -2,9 +2,9 @@
 //
 // The file is gone through once: each expression is read under the reading rules and worked out at the same time (crate expression), the
 // first fault of a value is kept, and reading goes on to the end, where every refusal is known (scan.rt). A point of a wrong length and a
-// file with too many shared parts are refused by reading alone (crate model_reading). Both lent lists are written once nothing can be refused any
-// more: the rows from an array of as many as compile ever writes, or, where a foreign file has more, by going through its rows again.
-// The time is in proportion to the words.
+// file with too many shared parts are refused by reading alone (crate model_reading). Both lent lists are written once nothing can be
+// refused any more: the rows from an array of as many as compile ever writes, or, where a foreign file has more, by going through its
+// rows again. The time is in proportion to the words.
 mod boundary;
 mod scan;
 

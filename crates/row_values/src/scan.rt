@@ -90,7 +90,7 @@ fn keep(rows: &mut [f64], i: usize, value: f64)
 }
 
 // The rows from `from` on, where `first` is the number of the next constant; their values go to the list, as far as it reaches.
-pub fn scan_rows(
+pub(crate) fn scan_rows(
     words: &[u32],
     constants: &[f64],
     point: &[f64],
@@ -226,7 +226,7 @@ fn scan_after(
 }
 
 // The whole file: the shared parts' values go into the array, the rows' to the list, as far as it reaches.
-pub fn scan_file(
+pub(crate) fn scan_file(
     words: &[u32],
     constants: &[f64],
     point: &[f64],

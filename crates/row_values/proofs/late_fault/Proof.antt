@@ -15,10 +15,14 @@ point-fault-requires : tie.Need-point-fault-requires
 point-fault-requires c κs = search needs
 
 returns-2 : tie.Need-returns-2
-returns-2 c = link-stop _ _ _ _ (link-go _ _ _ _ refl (c .before .before .before .before .before .room-fault .ensures) (c .before .before .before .if1 .left)) (c .before .before .point-fault .ensures) (c .if2 .taken)
+returns-2 c =
+    link-stop _ _ _ _ (link-go _ _ _ _ refl (c .before .before .before .before .before .room-fault .ensures) (c .before .before .before .if1 .left)) (c .before .before .point-fault .ensures)
+    (c .if2 .taken)
 
 returns-3 : tie.Need-returns-3
-returns-3 c = sym (link-go _ _ _ _ (link-go _ _ _ _ refl (c .before .before .before .before .before .before .room-fault .ensures) (c .before .before .before .before .if1 .left)) (c .before .before .before .point-fault .ensures) (c .before .if2 .left))
+returns-3 c =
+    sym
+    (link-go _ _ _ _ (link-go _ _ _ _ refl (c .before .before .before .before .before .before .room-fault .ensures) (c .before .before .before .before .if1 .left)) (c .before .before .before .point-fault .ensures) (c .before .if2 .left))
 
 pub late-fault-spec : {M : Type 1} → statement M
 late-fault-spec =

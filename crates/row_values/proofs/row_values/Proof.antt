@@ -63,7 +63,9 @@ same-length-2 c = search needs
 
 returns-2 : tie.Need-returns-2
 returns-2 c =
-    let a = c .before .before .before .before .before .before .before .before .before .before .before .before .before .before .before .before .before .before .before .before .before .before .before .args in
+    let a =
+    c .before .before .before .before .before .before .before .before .before .before .before .before .before .before .before .before .before .before .before .before .before .before .before .args
+    in
     let s = c .before .before .before .before .before .before .before .before .before .before .before .before .before .before .before .settled in
     let is-clear = c .before .before .before .before .before .before .before .before .before .before .before .if1 .left in
     let first = c .before .before .before .before .before .before .before .before .copy-front .ensures in

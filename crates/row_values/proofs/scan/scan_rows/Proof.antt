@@ -48,7 +48,9 @@ keep-requires c κs = search needs
 
 add-count : tie.Need-add-count Inv-loop μ-loop
 add-count c =
-    let h : _ < _ = mark-inside _ _ _ _ _ (c .before .before .before .before .before .before .before .before .before .is-mark .ensures) (c .before .before .before .before .before .before .before .before .if1 .taken) in
+    let h : _ < _ =
+    mark-inside _ _ _ _ _ (c .before .before .before .before .before .before .before .before .before .is-mark .ensures)
+    (c .before .before .before .before .before .before .before .before .if1 .taken) in
     omega (arith, c .before .before .before .before .before .before .before .before .before .before .loop .inv .least)
 
 loop-less : tie.Need-loop-less Inv-loop μ-loop
