@@ -113,9 +113,10 @@ module _ (ws : List ℕ) (xs point values : List Float) where
   }
 
   -- n operands of a word of this kind, of which i are gathered
-  pub record Gathered (depth at k kind n : ℕ) (total : Float) (ok : Bool) (here next i : ℕ) : Type 0 where
-    pub went : readAt depth at k ≡ many (readAt (depth - 1)) (n - i) here next
-    pub is : evaluated point values (parse ws (patterns xs) depth at) ≡ whole ws (patterns xs) point values kind i total ok (parseMany (parse ws (patterns xs) (depth - 1)) (n - i) here)
+  pub record Gathered (depth at k kind n : ℕ) (s : Scanned) (i : ℕ) : Type 0 where
+    pub went : readAt depth at k ≡ many (readAt (depth - 1)) (n - i) (s .at) (s .next)
+    pub is : evaluated point values (parse ws (patterns xs) depth at)
+        ≡ whole ws (patterns xs) point values kind i (s .value) (s .«in_range») (parseMany (parse ws (patterns xs) (depth - 1)) (n - i) (s .at))
 
   module _ (depth at k kind load n first : ℕ) (head : Head) (deep : depth ≡ 0 → ⊥) (p : head ≡ readHead ws (length xs) (length point) (length values) at k)
       (q : head ≡ Open n first) (e : kind ≡ kindOf (getD ws at 0)) (f : load ≡ loadOf (getD ws at 0)) where
@@ -125,48 +126,43 @@ module _ (ws : List ℕ) (xs point values : List Float) where
     open-inside : at < length ws
     open-inside = head-inside ws (length xs) (length point) (length values) at k n first head p q
 
-    pub gathered-none : 3 ≤ kind → Gathered depth at k kind n zero64 true (at + 1) first 0
-    gathered-none lo = record {
+    pub gathered-none : (s : Scanned) → 3 ≤ kind → s ≡ record { value = zero64; «in_range» = true; at = at + 1; next = first } → Gathered depth at k kind n s 0
+    gathered-none s lo r = rw r (record {
       went = begun;
       is = begins ws (patterns xs) point values depth at kind load n deep open-inside e f lo (rw (← e, ← f) at (open-arity at k n first head p q));
-    }
+    })
 
     pub a-leaf-read : (s : Scanned) (v : Float) → kind < 3 → v ≡ value point values (leafOf (patterns xs) kind load)
-        → s ≡ record { value = applied kind v; «in_range» = true && argumentOk kind v; at = at + 1; next = first } → Scans ws xs point values depth at k s
-    unfolding applied argumentOk
+        → s ≡ record { value = v; «in_range» = true; at = at + 1; next = first } → Scans ws xs point values depth at k s
     a-leaf-read s v lo w r =
         let z : n ≡ 0 = rw (← e, ← f) at (open-arity at k n first head p q) ∙ leaf-arity kind load lo in
-        let a : kind ≡ 6 → ⊥ = λ y. omega arith in
-        let b : kind ≡ 7 → ⊥ = λ y. omega arith in
-        let d : kind ≡ 8 → ⊥ = λ y. omega arith in
-        let t : s ≡ record { value = v; «in_range» = true; at = at + 1; next = first } = r ∙ rw (ne-eqb kind 6 a, ne-eqb kind 7 b, ne-eqb kind 8 d) in
-        read-well depth at k s (omega (arith, ap (λ x. x .at) t)) (rw t (record {
+        read-well depth at k s (λ y. omega (arith, ap (λ x. x .at) r)) (rw r (record {
           went = begun ∙ rw z;
           is = sym (a-leaf ws (patterns xs) point values depth at kind load v deep open-inside e f lo w);
         }))
 
-  pub gathered-more : (depth at k kind n here next i : ℕ) (total total′ : Float) (ok : Bool) (s : Scanned) → i < n → Gathered depth at k kind n total ok here next i
-      → Reads ws xs point values (depth - 1) here next s → total′ ≡ cond (eqb i 0) (s .value) (step kind total (s .value))
-      → Gathered depth at k kind n total′ (ok && s .«in_range») (s .at) (s .next) (i + 1)
-  gathered-more depth at k kind n here next i total total′ ok s h g p q = record {
-    went = one-more _ n i here next (s .at) (s .next) _ _ h (g .went) refl (p .went);
-    is = goes-on ws (patterns xs) point values (parse ws (patterns xs) (depth - 1)) kind n i here total ok (worth s) total′ _ h (g .is) (sym (p .is)) q;
-  }
+  pub gathered-more : (depth at k kind n i : ℕ) (s e t : Scanned) → i < n → Gathered depth at k kind n s i → Reads ws xs point values (depth - 1) (s .at) (s .next) e
+      → t ≡ record { value = cond (eqb i 0) (e .value) (step kind (s .value) (e .value)); «in_range» = s .«in_range» && e .«in_range»; at = e .at; next = e .next }
+      → Gathered depth at k kind n t (i + 1)
+  gathered-more depth at k kind n i s e t h g p q = rw q (record {
+    went = one-more _ n i (s .at) (s .next) (e .at) (e .next) _ _ h (g .went) refl (p .went);
+    is = goes-on ws (patterns xs) point values (parse ws (patterns xs) (depth - 1)) kind n i (s .at) (s .value) (s .«in_range») (worth e) _ _ h (g .is) (sym (p .is)) refl;
+  })
 
-  pub gathered-all : (depth at k kind n here next i : ℕ) (total : Float) (ok : Bool) (s : Scanned) → n ≤ i → Gathered depth at k kind n total ok here next i
-      → s ≡ record { value = applied kind total; «in_range» = ok && argumentOk kind total; at = here; next = next } → Scans ws xs point values depth at k s
-  gathered-all depth at k kind n here next i total ok s h g p =
-      let w : readAt depth at k ≡ Went here next = g .went ∙ many-none _ n i here next h in
-      let far = went-on ws (length xs) (length point) (length values) depth at k here next _ refl w in
-      read-well depth at k s (λ z. omega (arith, far .0, ap (λ x. x .at) p)) (rw p (record {
+  pub gathered-all : (depth at k kind n i : ℕ) (s t : Scanned) → n ≤ i → Gathered depth at k kind n s i
+      → t ≡ record { value = applied kind (s .value); «in_range» = s .«in_range» && argumentOk kind (s .value); at = s .at; next = s .next } → Scans ws xs point values depth at k t
+  gathered-all depth at k kind n i s t h g p =
+      let w : readAt depth at k ≡ Went (s .at) (s .next) = g .went ∙ many-none _ n i (s .at) (s .next) h in
+      let far = went-on ws (length xs) (length point) (length values) depth at k (s .at) (s .next) _ refl w in
+      read-well depth at k t (λ z. omega (arith, far .0, ap (λ x. x .at) p)) (rw p (record {
         went = w;
-        is = sym (ends ws (patterns xs) point values (parse ws (patterns xs) (depth - 1)) kind n i here total ok _ h (g .is));
+        is = sym (ends ws (patterns xs) point values (parse ws (patterns xs) (depth - 1)) kind n i (s .at) (s .value) (s .«in_range») _ h (g .is));
       }))
 
-  pub gathered-wrong : (depth at k kind n here next i : ℕ) (total : Float) (ok : Bool) (e s : Scanned) → i < n → Gathered depth at k kind n total ok here next i
-      → Scans ws xs point values (depth - 1) here next e → e .at ≡ 0 → (s .at ≡ 0) × (s .next ≡ e .next) → Scans ws xs point values depth at k s
-  gathered-wrong depth at k kind n here next i total ok e s h g p z q =
-      read-wrong depth at k (e .next) s q (sym (one-wrong _ n i here next (e .next) _ _ h (g .went) refl (p .wrong z)))
+  pub gathered-wrong : (depth at k kind n i : ℕ) (s e t : Scanned) → i < n → Gathered depth at k kind n s i → Scans ws xs point values (depth - 1) (s .at) (s .next) e → e .at ≡ 0
+      → (t .at ≡ 0) × (t .next ≡ e .next) → Scans ws xs point values depth at k t
+  gathered-wrong depth at k kind n i s e t h g p z q =
+      read-wrong depth at k (e .next) t q (sym (one-wrong _ n i (s .at) (s .next) (e .next) _ _ h (g .went) refl (p .wrong z)))
 
   -- ---- at any depth that is left
 

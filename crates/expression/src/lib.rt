@@ -32,16 +32,6 @@ fn step(kind: u32, a: f64, b: f64) -> f64
     a + b
 }
 
-// The same, where the first operand is what is gathered.
-fn gather(kind: u32, i: usize, total: f64, b: f64) -> f64
-    ensures { λ r. ⌜ r ≡ cond (eqb i 0) b (step kind total b) ⌝ }
-{
-    if i == 0 {
-        return b;
-    }
-    step(kind, total, b)
-}
-
 // Square, cosine or sine; of other kinds the operands as gathered.
 fn applied(kind: u32, a: f64) -> f64
     ensures { λ r. ⌜ r ≡ applied kind a ⌝ }
@@ -242,20 +232,57 @@ fn leaf(kind: u32, load: usize, constants: &[f64], point: &[f64], shared: &[f64]
     number_at(shared, load)
 }
 
-// An expression of that kind, whose operands are gathered.
-fn finished(kind: u32, total: f64, in_range: bool, at: usize, next: usize) -> Scanned
+// Operand i, gathered with those before it: the first is taken as it is.
+fn gather(kind: u32, i: usize, before: Scanned, e: Scanned) -> Scanned
     ensures { λ s. ⌜ s ≡ record {
-      value = applied kind total;
-      «in_range» = «in_range» && argumentOk kind total;
-      at = at;
-      next = next;
+      value = cond (eqb i 0) (e .value) (step kind (before .value) (e .value));
+      «in_range» = before .«in_range» && e .«in_range»;
+      at = e .at;
+      next = e .next;
     } ⌝ }
 {
+    if i == 0 {
+        return Scanned {
+            value: e.value,
+            in_range: before.in_range & e.in_range,
+            at: e.at,
+            next: e.next,
+        };
+    }
+    Scanned {
+        value: step(kind, before.value, e.value),
+        in_range: before.in_range & e.in_range,
+        at: e.at,
+        next: e.next,
+    }
+}
+
+// An expression of that kind, whose operands are gathered.
+fn finished(kind: u32, gathered: Scanned) -> Scanned
+    ensures { λ s. ⌜ s ≡ record {
+      value = applied kind (gathered .value);
+      «in_range» = gathered .«in_range» && argumentOk kind (gathered .value);
+      at = gathered .at;
+      next = gathered .next;
+    } ⌝ }
+{
+    let total = gathered.value;
     let ok = argument_ok(kind, total);
-    let value = applied(kind, total);
+    Scanned {
+        value: applied(kind, total),
+        in_range: gathered.in_range & ok,
+        at: gathered.at,
+        next: gathered.next,
+    }
+}
+
+// What is gathered before the first operand, or a leaf.
+fn begun(value: f64, at: usize, next: usize) -> Scanned
+    ensures { λ s. ⌜ s ≡ record { value = value; «in_range» = true; at = at; next = next } ⌝ }
+{
     Scanned {
         value,
-        in_range: in_range & ok,
+        in_range: true,
         at,
         next,
     }
@@ -289,34 +316,25 @@ fn scan_expr(
     let load = base::load_of(w) as usize;
     if kind < 3 {
         let v = leaf(kind, load, constants, point, shared);
-        return finished(kind, v, true, at + 1, first);
+        return begun(v, at + 1, first);
     }
-    let mut total = 0.0;
-    let mut in_range = true;
-    let mut here = at + 1;
-    let mut next = first;
+    let mut s = begun(0.0, at + 1, first);
     let mut i: usize = 0;
     while i < n {
-        let f = shallow_at(words, here, depth - 1, next, constants, point, shared);
+        let f = shallow_at(words, s.at, depth - 1, s.next, constants, point, shared);
         if f.at != 0 {
-            total = gather(kind, i, total, f.value);
-            in_range = in_range & f.in_range;
-            here = f.at;
-            next = f.next;
+            s = gather(kind, i, s, f);
             i += 1;
             continue;
         }
-        let e = scan_expr(words, here, depth - 1, next, constants, point, shared);
+        let e = scan_expr(words, s.at, depth - 1, s.next, constants, point, shared);
         if e.at == 0 {
             return wrong(e.next);
         }
-        total = gather(kind, i, total, e.value);
-        in_range = in_range & e.in_range;
-        here = e.at;
-        next = e.next;
+        s = gather(kind, i, s, e);
         i += 1;
     }
-    finished(kind, total, in_range, here, next)
+    finished(kind, s)
 }
 
 // Reads and works out the expression of a part, whose words start at `at`, where k is the number of the next constant.

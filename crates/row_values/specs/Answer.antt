@@ -43,7 +43,8 @@ module _ (point : List Float) where
       let values = sharedValues [] (M .shared) in
       let rowsAt = placeOf (count (M .shared)) 0 (M .shared) in
       let objectiveAt = placeOf (count (M .rows)) rowsAt (M .rows) in
-      orElse (sharedFault 0 [] (M .shared)) (orElse (rowsFault rowsAt values (M .rows)) (valueFault point values objectiveAt (M .objective)))
+      orElse (sharedFault 0 [] (M .shared))
+      (orElse (rowsFault rowsAt values (M .rows)) (valueFault point values objectiveAt (M .objective)))
 
 -- "more than 4,352 shared parts are refused as size (place: the first beginning word too many)"
 abbrev pub sizeFault : Model → Fault

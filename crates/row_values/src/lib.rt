@@ -185,7 +185,7 @@ fn write_rows(
         copy_front(kept, rows, out);
         return;
     }
-    let s = scan_rows(
+    let _again = scan_rows(
         words,
         constants,
         point,
@@ -208,7 +208,8 @@ pub fn row_values(
     ensures { λ r. ⌜ (let ws = now (words .entry) in let xs = now (constants .entry) in let x = now (point .entry) in
         let shared = now («shared_out» .entry) in let rows = now («rows_out» .entry) in
         (r ≡ rowValues ws xs columns x (length shared) (length rows))
-        × (now («shared_out» .exit) ≡ sharedAfter ws xs columns x shared rows) × (now («rows_out» .exit) ≡ rowsAfter ws xs columns x shared rows)) ⌝ }
+        × (now («shared_out» .exit) ≡ sharedAfter ws xs columns x shared rows)
+        × (now («rows_out» .exit) ≡ rowsAfter ws xs columns x shared rows)) ⌝ }
 {
     let mut shared = [0.0; 4352];
     let mut rows = [0.0; 6144];

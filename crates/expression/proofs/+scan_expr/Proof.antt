@@ -12,6 +12,7 @@ use Rattle.expression.proofs.scan_expr.Kinds as scan-expr-kinds
 use Rattle.expression.proofs.+scan_expr.Lts-scan_expr as scan-expr-lts
 use Rattle.base.proofs.kind_of.Reads as kind-of-reads
 use Rattle.base.proofs.load_of.Reads as load-of-reads
+use Rattle.expression.proofs.begun.Reads as begun-reads
 use Rattle.expression.proofs.finished.Reads as finished-reads
 use Rattle.expression.proofs.gather.Reads as gather-reads
 use Rattle.expression.proofs.leaf.Reads as leaf-reads
@@ -44,23 +45,24 @@ callees t = (
   load-of-reads.Learnt,
   leaf-reads.Asked,
   leaf-reads.Learnt,
-  finished-reads.Asked,
-  finished-reads.Learnt,
+  begun-reads.Asked,
+  begun-reads.Learnt,
   shallow-at-reads.Asked,
   shallow-at-reads.Learnt,
   gather-reads.Asked,
   gather-reads.Learnt,
   scan-expr-below t,
   scan-expr.Post,
+  finished-reads.Asked,
+  finished-reads.Learnt,
 )
 
 abbrev scan-expr-Inv-loop : scan-expr-lts.InvT-loop
-scan-expr-Inv-loop words at depth k constants point shared n first w kind load total₀ in-range₀ here₀ next₀ i₀ total in-range here next i =
-    (i ≤ n) × (n < 18446744073709551616) × Gathered words constants point shared depth at k kind n total in-range here next i
+scan-expr-Inv-loop words at depth k constants point shared n first w kind load s₀ i₀ s i =
+    (i ≤ n) × (n < 18446744073709551616) × Gathered words constants point shared depth at k kind n s i
 
 abbrev scan-expr-μ-loop : scan-expr-lts.MeasureT-loop
-scan-expr-μ-loop words at depth k constants point shared n first w kind load total₀ in-range₀ here₀ next₀ i₀ total in-range here next i =
-    n - i
+scan-expr-μ-loop words at depth k constants point shared n first w kind load s₀ i₀ s i = n - i
 
 scan-expr-wrong-requires : (t : ℕ) → scan-expr-lts.Need-wrong-requires (callees t) (scan-expr-at t) scan-expr.Post scan-expr-Inv-loop scan-expr-μ-loop
 scan-expr-wrong-requires t c κs = search needs
@@ -108,13 +110,13 @@ scan-expr-cast-load t c = search needs
 scan-expr-leaf-requires : (t : ℕ) → scan-expr-lts.Need-leaf-requires (callees t) (scan-expr-at t) scan-expr.Post scan-expr-Inv-loop scan-expr-μ-loop
 scan-expr-leaf-requires t c κs = search needs
 
-scan-expr-add-finished : (t : ℕ) → scan-expr-lts.Need-add-finished (callees t) (scan-expr-at t) scan-expr.Post scan-expr-Inv-loop scan-expr-μ-loop
-scan-expr-add-finished t c =
+scan-expr-add-begun : (t : ℕ) → scan-expr-lts.Need-add-begun (callees t) (scan-expr-at t) scan-expr.Post scan-expr-Inv-loop scan-expr-μ-loop
+scan-expr-add-begun t c =
     let h : _ < _ = head-inside _ _ _ _ _ _ _ _ _ (c .before .before .before .before .before .before .before .before .read-head .ensures)
     (c .before .before .before .before .before .before .head .given .1) in omega arith
 
-scan-expr-finished-requires : (t : ℕ) → scan-expr-lts.Need-finished-requires (callees t) (scan-expr-at t) scan-expr.Post scan-expr-Inv-loop scan-expr-μ-loop
-scan-expr-finished-requires t c κs = search needs
+scan-expr-begun-requires : (t : ℕ) → scan-expr-lts.Need-begun-requires (callees t) (scan-expr-at t) scan-expr.Post scan-expr-Inv-loop scan-expr-μ-loop
+scan-expr-begun-requires t c κs = search needs
 
 scan-expr-returns-3 : (t : ℕ) → scan-expr-lts.Need-returns-3 (callees t) (scan-expr-at t) scan-expr.Post scan-expr-Inv-loop scan-expr-μ-loop
 scan-expr-returns-3 t c =
@@ -124,23 +126,27 @@ scan-expr-returns-3 t c =
     (c .before .before .before .before .before .before .before .before .before .before .before .before .before .before .before .args .shared .now) _ _ _ _ _ _ _ _
     (c .before .before .before .before .before .before .before .before .before .before .if1 .left) (c .before .before .before .before .before .before .before .before .before .read-head .ensures)
     (c .before .before .before .before .before .before .before .head .given .1) (c .before .before .before .before .kind-of .ensures) (c .before .before .before .load-of .ensures) _ _
-    (c .before .before .if2 .taken) (c .before .leaf .ensures) (c .finished .ensures)
+    (c .before .before .if2 .taken) (c .before .leaf .ensures) (c .begun .ensures)
 
-scan-expr-add-here : (t : ℕ) → scan-expr-lts.Need-add-here (callees t) (scan-expr-at t) scan-expr.Post scan-expr-Inv-loop scan-expr-μ-loop
-scan-expr-add-here t c =
+scan-expr-add-begun-2 : (t : ℕ) → scan-expr-lts.Need-add-begun-2 (callees t) (scan-expr-at t) scan-expr.Post scan-expr-Inv-loop scan-expr-μ-loop
+scan-expr-add-begun-2 t c =
     let h : _ < _ = head-inside _ _ _ _ _ _ _ _ _ (c .before .before .before .before .before .before .before .read-head .ensures) (c .before .before .before .before .before .head .given .1) in omega
     arith
+
+scan-expr-begun-requires-2 : (t : ℕ) → scan-expr-lts.Need-begun-requires-2 (callees t) (scan-expr-at t) scan-expr.Post scan-expr-Inv-loop scan-expr-μ-loop
+scan-expr-begun-requires-2 t c κs = search needs
 
 scan-expr-loop-holds : (t : ℕ) → scan-expr-lts.Need-loop-holds (callees t) (scan-expr-at t) scan-expr.Post scan-expr-Inv-loop scan-expr-μ-loop
 scan-expr-loop-holds t c = (
   omega arith,
   search needs,
-  gathered-none (c .before .before .before .before .before .before .before .before .before .before .before .before .before .args .words .now)
-      (c .before .before .before .before .before .before .before .before .before .before .before .before .before .args .constants .now)
-      (c .before .before .before .before .before .before .before .before .before .before .before .before .before .args .point .now)
-      (c .before .before .before .before .before .before .before .before .before .before .before .before .before .args .shared .now) _ _ _ _ _ _ _ _
-      (c .before .before .before .before .before .before .before .before .if1 .left) (c .before .before .before .before .before .before .before .read-head .ensures)
-      (c .before .before .before .before .before .head .given .1) (c .before .before .kind-of .ensures) (c .before .load-of .ensures) (c .if2 .left),
+  gathered-none (c .before .before .before .before .before .before .before .before .before .before .before .before .before .before .args .words .now)
+      (c .before .before .before .before .before .before .before .before .before .before .before .before .before .before .args .constants .now)
+      (c .before .before .before .before .before .before .before .before .before .before .before .before .before .before .args .point .now)
+      (c .before .before .before .before .before .before .before .before .before .before .before .before .before .before .args .shared .now) _ _ _ _ _ _ _ _
+      (c .before .before .before .before .before .before .before .before .before .if1 .left) (c .before .before .before .before .before .before .before .before .read-head .ensures)
+      (c .before .before .before .before .before .before .head .given .1) (c .before .before .before .kind-of .ensures) (c .before .before .load-of .ensures) _ (c .before .if2 .left)
+      (c .begun2 .ensures),
 )
 
 scan-expr-sub-shallow-at : (t : ℕ) → scan-expr-lts.Need-sub-shallow-at (callees t) (scan-expr-at t) scan-expr.Post scan-expr-Inv-loop scan-expr-μ-loop
@@ -160,14 +166,14 @@ scan-expr-loop-less t c = search needs
 
 scan-expr-loop-again : (t : ℕ) → scan-expr-lts.Need-loop-again (callees t) (scan-expr-at t) scan-expr.Post scan-expr-Inv-loop scan-expr-μ-loop
 scan-expr-loop-again t c = (
-  omega (arith, c .before .before .before .before .before .loop-test .taken),
-  c .before .before .before .before .before .before .loop .inv .1,
+  omega (arith, c .before .before .before .before .loop-test .taken),
+  c .before .before .before .before .before .loop .inv .1,
   gathered-more (c .before .before .before .before .before .before .before .before .before .before .before .before .before .before .before .before .before .before .before .before .args .words .now)
       (c .before .before .before .before .before .before .before .before .before .before .before .before .before .before .before .before .before .before .before .before .args .constants .now)
       (c .before .before .before .before .before .before .before .before .before .before .before .before .before .before .before .before .before .before .before .before .args .point .now)
       (c .before .before .before .before .before .before .before .before .before .before .before .before .before .before .before .before .before .before .before .before .args .shared .now) _ _ _ _ _ _
-      _ _ _ _ _ _ (c .before .before .before .before .before .loop-test .taken) (c .before .before .before .before .before .before .loop .inv .2)
-      (c .before .before .before .before .shallow-at .ensures (c .before .before .if3 .taken)) (c .before .gather .ensures),
+      _ _ _ (c .before .before .before .before .loop-test .taken) (c .before .before .before .before .before .loop .inv .2) (c .before .before .before .shallow-at .ensures (c .before .if3 .taken))
+      (c .gather .ensures),
 )
 
 scan-expr-sub-scan-expr : (t : ℕ) → scan-expr-lts.Need-sub-scan-expr (callees t) (scan-expr-at t) scan-expr.Post scan-expr-Inv-loop scan-expr-μ-loop
@@ -175,7 +181,7 @@ scan-expr-sub-scan-expr t c = search needs
 
 scan-expr-scan-expr-requires : (t : ℕ) → scan-expr-lts.Need-scan-expr-requires (callees t) (scan-expr-at t) scan-expr.Post scan-expr-Inv-loop scan-expr-μ-loop
 scan-expr-scan-expr-requires t c κs = (
-  omega (arith, c .before .before .before .before .before .before .before .before .before .before .before .before .before .before .before .before .before .before .pre .0),
+  omega (arith, c .before .before .before .before .before .before .before .before .before .before .before .before .before .before .before .before .before .before .before .pre .0),
   tt,
 )
 
@@ -185,47 +191,45 @@ scan-expr-wrong-requires-3 t c κs = search needs
 scan-expr-returns-4 : (t : ℕ) → scan-expr-lts.Need-returns-4 (callees t) (scan-expr-at t) scan-expr.Post scan-expr-Inv-loop scan-expr-μ-loop
 scan-expr-returns-4 t c =
     gathered-wrong
-    (c .before .before .before .before .before .before .before .before .before .before .before .before .before .before .before .before .before .before .before .before .before .before .args .words .now)
-    (c .before .before .before .before .before .before .before .before .before .before .before .before .before .before .before .before .before .before .before .before .before .before .args .constants .now)
-    (c .before .before .before .before .before .before .before .before .before .before .before .before .before .before .before .before .before .before .before .before .before .before .args .point .now)
-    (c .before .before .before .before .before .before .before .before .before .before .before .before .before .before .before .before .before .before .before .before .before .before .args .shared .now)
-    _ _ _ _ _ _ _ _ _ _ _ _ (c .before .before .before .before .before .before .before .loop-test .taken) (c .before .before .before .before .before .before .before .before .loop .inv .2)
+    (c .before .before .before .before .before .before .before .before .before .before .before .before .before .before .before .before .before .before .before .before .before .before .before .args .words .now)
+    (c .before .before .before .before .before .before .before .before .before .before .before .before .before .before .before .before .before .before .before .before .before .before .before .args .constants .now)
+    (c .before .before .before .before .before .before .before .before .before .before .before .before .before .before .before .before .before .before .before .before .before .before .before .args .point .now)
+    (c .before .before .before .before .before .before .before .before .before .before .before .before .before .before .before .before .before .before .before .before .before .before .before .args .shared .now)
+    _ _ _ _ _ _ _ _ _ (c .before .before .before .before .before .before .before .loop-test .taken) (c .before .before .before .before .before .before .before .before .loop .inv .2)
     (c .before .before .before .scan-expr .ensures) (c .before .if4 .taken) (c .wrong3 .ensures)
 
 scan-expr-gather-requires-2 : (t : ℕ) → scan-expr-lts.Need-gather-requires-2 (callees t) (scan-expr-at t) scan-expr.Post scan-expr-Inv-loop scan-expr-μ-loop
 scan-expr-gather-requires-2 t c κs = search needs
 
 scan-expr-add-i-2 : (t : ℕ) → scan-expr-lts.Need-add-i-2 (callees t) (scan-expr-at t) scan-expr.Post scan-expr-Inv-loop scan-expr-μ-loop
-scan-expr-add-i-2 t c =
-    omega (arith, c .before .before .before .before .before .before .before .before .loop-test .taken, c .before .before .before .before .before .before .before .before .before .loop .inv .1)
+scan-expr-add-i-2 t c = omega (arith, c .before .before .before .before .before .before .before .loop-test .taken, c .before .before .before .before .before .before .before .before .loop .inv .1)
 
 scan-expr-loop-less-2 : (t : ℕ) → scan-expr-lts.Need-loop-less-2 (callees t) (scan-expr-at t) scan-expr.Post scan-expr-Inv-loop scan-expr-μ-loop
 scan-expr-loop-less-2 t c = search needs
 
 scan-expr-loop-again-2 : (t : ℕ) → scan-expr-lts.Need-loop-again-2 (callees t) (scan-expr-at t) scan-expr.Post scan-expr-Inv-loop scan-expr-μ-loop
 scan-expr-loop-again-2 t c = (
-  omega (arith, c .before .before .before .before .before .before .before .before .loop-test .taken),
-  c .before .before .before .before .before .before .before .before .before .loop .inv .1,
+  omega (arith, c .before .before .before .before .before .before .before .loop-test .taken),
+  c .before .before .before .before .before .before .before .before .loop .inv .1,
   gathered-more
       (c .before .before .before .before .before .before .before .before .before .before .before .before .before .before .before .before .before .before .before .before .before .before .before .args .words .now)
       (c .before .before .before .before .before .before .before .before .before .before .before .before .before .before .before .before .before .before .before .before .before .before .before .args .constants .now)
       (c .before .before .before .before .before .before .before .before .before .before .before .before .before .before .before .before .before .before .before .before .before .before .before .args .point .now)
       (c .before .before .before .before .before .before .before .before .before .before .before .before .before .before .before .before .before .before .before .before .before .before .before .args .shared .now)
-      _ _ _ _ _ _ _ _ _ _ _ _ (c .before .before .before .before .before .before .before .before .loop-test .taken)
-      (c .before .before .before .before .before .before .before .before .before .loop .inv .2) (c .before .before .before .before .scan-expr .ensures .finds (c .before .before .if4 .left))
-      (c .before .gather2 .ensures),
+      _ _ _ _ _ _ _ _ _ (c .before .before .before .before .before .before .before .loop-test .taken) (c .before .before .before .before .before .before .before .before .loop .inv .2)
+      (c .before .before .before .scan-expr .ensures .finds (c .before .if4 .left)) (c .gather2 .ensures),
 )
 
-scan-expr-finished-requires-2 : (t : ℕ) → scan-expr-lts.Need-finished-requires-2 (callees t) (scan-expr-at t) scan-expr.Post scan-expr-Inv-loop scan-expr-μ-loop
-scan-expr-finished-requires-2 t c κs = search needs
+scan-expr-finished-requires : (t : ℕ) → scan-expr-lts.Need-finished-requires (callees t) (scan-expr-at t) scan-expr.Post scan-expr-Inv-loop scan-expr-μ-loop
+scan-expr-finished-requires t c κs = search needs
 
 scan-expr-returns-5 : (t : ℕ) → scan-expr-lts.Need-returns-5 (callees t) (scan-expr-at t) scan-expr.Post scan-expr-Inv-loop scan-expr-μ-loop
 scan-expr-returns-5 t c =
-    gathered-all (c .before .before .before .before .before .before .before .before .before .before .before .before .before .before .before .before .args .words .now)
-    (c .before .before .before .before .before .before .before .before .before .before .before .before .before .before .before .before .args .constants .now)
-    (c .before .before .before .before .before .before .before .before .before .before .before .before .before .before .before .before .args .point .now)
-    (c .before .before .before .before .before .before .before .before .before .before .before .before .before .before .before .before .args .shared .now) _ _ _ _ _ _ _ _ _ _ _
-    (c .before .loop-test .left) (c .before .before .loop .inv .2) (c .finished2 .ensures)
+    gathered-all (c .before .before .before .before .before .before .before .before .before .before .before .before .before .before .before .before .before .args .words .now)
+    (c .before .before .before .before .before .before .before .before .before .before .before .before .before .before .before .before .before .args .constants .now)
+    (c .before .before .before .before .before .before .before .before .before .before .before .before .before .before .before .before .before .args .point .now)
+    (c .before .before .before .before .before .before .before .before .before .before .before .before .before .before .before .before .before .args .shared .now) _ _ _ _ _ _ _ _
+    (c .before .loop-test .left) (c .before .before .loop .inv .2) (c .finished .ensures)
 
 pub +scan-expr-spec : {M : Type 1} → statement M
 +scan-expr-spec = close μ-scan-expr λ t. scan-expr-lts.spec (callees t)
@@ -246,10 +250,11 @@ pub +scan-expr-spec : {M : Type 1} → statement M
     (scan-expr-load-of-requires t)
     (scan-expr-cast-load t)
     (scan-expr-leaf-requires t)
-    (scan-expr-add-finished t)
-    (scan-expr-finished-requires t)
+    (scan-expr-add-begun t)
+    (scan-expr-begun-requires t)
     (scan-expr-returns-3 t)
-    (scan-expr-add-here t)
+    (scan-expr-add-begun-2 t)
+    (scan-expr-begun-requires-2 t)
     (scan-expr-loop-holds t)
     (scan-expr-sub-shallow-at t)
     (scan-expr-shallow-at-requires t)
@@ -265,5 +270,5 @@ pub +scan-expr-spec : {M : Type 1} → statement M
     (scan-expr-add-i-2 t)
     (scan-expr-loop-less-2 t)
     (scan-expr-loop-again-2 t)
-    (scan-expr-finished-requires-2 t)
+    (scan-expr-finished-requires t)
     (scan-expr-returns-5 t)

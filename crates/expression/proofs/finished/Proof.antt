@@ -10,7 +10,7 @@ applied-requires : tie.Need-applied-requires
 applied-requires c κs = search needs
 
 returns : tie.Need-returns
-returns c = rw (c .applied .ensures, c .before .argument-ok .ensures)
+returns c = rw (c .before .applied .ensures, c .before .before .argument-ok .ensures)
 
 pub finished-spec : {M : Type 1} → statement M
 finished-spec = tie.close (tie.spec argument-ok-requires applied-requires returns)

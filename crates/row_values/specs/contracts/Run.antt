@@ -33,7 +33,8 @@ use Rattle.row_values.specs.Answer.{valueFault, sharedValues, allShared,
 
 -- 12, by the numbers of shared parts and rows
 abbrev pub roomOf : ℕ → ℕ → ℕ → ℕ → Fault
-roomOf shared rows lentShared lentRows = orElse (unless (leb shared lentShared) (fault SHORT 1)) (unless (leb rows lentRows) (fault SHORT 2))
+roomOf shared rows lentShared lentRows =
+    orElse (unless (leb shared lentShared) (fault SHORT 1)) (unless (leb rows lentRows) (fault SHORT 2))
 
 -- "14 first within one part", of what was worked out
 abbrev pub scannedFault : Scanned → ℕ → Fault
