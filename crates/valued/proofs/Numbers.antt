@@ -20,7 +20,7 @@ use Rattle.model_reading.specs.Reading.{sharedLimit, yields}
 use Rattle.expression.specs.Value.{value, inRange}
 use Rattle.lists.specs.Finite.{firstNonFinite, pointFault}
 use Rattle.row_values.specs.Answer.{valueFault, sharedFault, rowsFault, valuesFault, roomFault, refusal}
-use Rattle.compiled_values.specs.Spared.{SharedSpared, RowsSpared, Spared}
+use Rattle.valued.specs.Spared.{SharedSpared, RowsSpared, Spared}
 
 module _ (P : ℕ → Type 0) (none-refused : P 0) where
   pub or-has : (f g : Fault) → P (f .number) → P (g .number) → P (orElse f g .number)

@@ -55,7 +55,7 @@ module _ (point : List Float) where
   rows-give values none at = none-given (SWING ∷ VALUE ∷ [])
   rows-give values (more e ts) at = gives-both (SWING ∷ VALUE ∷ []) (valueFault point values at e) _ (value-gives values at e) (rows-give values ts _)
 
-  values-give : (M : Model) → Gives (section (SWING ∷ VALUE ∷ []) (valuesFault point M))
+  pub values-give : (M : Model) → Gives (section (SWING ∷ VALUE ∷ []) (valuesFault point M))
   unfolding valuesFault
   values-give M =
       let values = sharedValues point [] (M .shared) in

@@ -13,7 +13,7 @@ use Rattle.network.specs.Network.{buses, generators, branches, references, cost
 use Rattle.acopf.specs.Build.{literal, add, subtract, square, scaled, sum}
 use Rattle.acopf.specs.Rows.{Row, balanceRow, pBalanceRow, qBalanceRow, rated, thermalRows, segmentRow, segmentRows, rows}
 use Rattle.acopf.specs.Model.{costTerm, objective}
-use Rattle.compiled_values.proofs.InRange.{InRange, in-literal, in-column, in-shared, in-one, in-two, in-scaled, in-sum}
+use Rattle.valued.proofs.InRange.{InRange, in-literal, in-column, in-shared, in-one, in-two, in-scaled, in-sum}
 
 abbrev pub RowInRange : List Float → List Float → ℕ → Row → Type 0
 RowInRange point values i r = InRange point values (r .expression)

@@ -35,12 +35,12 @@ use Rattle.expression.proofs.Lists.{any-default}
 use Rattle.expression.specs.Value.{value}
 use Rattle.lists.specs.Finite.{pointFault}
 use Rattle.row_values.specs.Answer.{valuesFault, roomFault, refusal, allShared, allRows, objectiveValue}
-use Rattle.compiled_values.specs.File.{partValues, fileReading, fileRefusal, fileSharedAfter, fileRowsAfter}
-use Rattle.compiled_values.specs.Spared.{AnglesRight, Spared}
-use Rattle.compiled_values.proofs.Difference.{nan-not-right}
-use Rattle.compiled_values.proofs.SharedParts.{length-values}
-use Rattle.compiled_values.proofs.Numbers.{or-has, room-has, point-has, values-has, refusal-is}
-use Rattle.compiled_values.proofs.ModelValues.{row-values, row-value, reference-value, model-spared}
+use Rattle.valued.specs.File.{partValues, fileReading, fileRefusal, fileSharedAfter, fileRowsAfter}
+use Rattle.valued.specs.Spared.{AnglesRight, Spared}
+use Rattle.valued.proofs.Difference.{nan-not-right}
+use Rattle.valued.proofs.SharedParts.{length-values}
+use Rattle.valued.proofs.Numbers.{or-has, room-has, point-has, values-has, refusal-is}
+use Rattle.valued.proofs.ModelValues.{row-values, row-value, reference-value, model-spared}
 
 module _ (ws : List ℕ) (xs : List Float) (lent : List ℕ) (e : compiled ws xs lent .fault .number ≡ 0) where
   network-laid : LaidWords ws (layoutOf ws)

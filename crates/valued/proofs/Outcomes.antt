@@ -19,10 +19,10 @@ use Rattle.nl.specs.Expr.{Terms, none, more, count}
 use Rattle.nl.specs.File.{Model}
 use Rattle.model_reading.specs.Reading.{Reading, yields, reading}
 use Rattle.expression.specs.Value.{value, valuesOf, patterns}
 use Rattle.row_values.specs.Answer.{sharedValues, refusal, allShared, allRows, refusedBy, rowValues, sharedAfter, rowsAfter}
 use Rattle.row_values.proofs.Answers.{length-values, refusal-proper}
-use Rattle.row_values.proofs.Laws.{FiniteAt, all-finite}
-use Rattle.row_values.proofs.Order.{laterNumbers, yields-number}
+use Rattle.valued.proofs.Laws.{FiniteAt, all-finite}
+use Rattle.valued.proofs.Order.{laterNumbers, yields-number}
 
 length-shared : (point : List Float) (ts : Terms) (values : List Float) → length (sharedValues point values ts) ≡ length values + count ts
 length-shared point none values = omega arith

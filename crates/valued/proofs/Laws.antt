@@ -61,7 +61,7 @@ inside-finite (fin s m e) h = refl
 
 -- ---- every value of an answer 0 is finite
 
-one-finite : (v : Float) → isFinite v ≡ true → AllFinite (v ∷ [])
+pub one-finite : (v : Float) → isFinite v ≡ true → AllFinite (v ∷ [])
 one-finite v h zero l = h
 one-finite v h (suc j) l = absurd (omega arith)
 

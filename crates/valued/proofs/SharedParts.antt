@@ -18,9 +18,9 @@ use Rattle.expression.specs.Value.{step, applied, inside, value}
 use Rattle.row_values.specs.Answer.{sharedValues}
 use Rattle.acopf.specs.Build.{square, multiply, cosineOf, scaled, sum, terms}
 use Rattle.acopf.specs.Parts.{voltageProduct, angle, angleDifference, branchParts, sharedParts}
-use Rattle.compiled_values.specs.Spared.{AnglesRight, SharedSpared}
-use Rattle.compiled_values.proofs.Difference.{difference-inside}
-use Rattle.compiled_values.proofs.InRange.{InRange, in-column, in-shared, in-none, in-more, in-over, in-one, in-argument, in-two, in-scaled}
+use Rattle.valued.specs.Spared.{AnglesRight, SharedSpared}
+use Rattle.valued.proofs.Difference.{difference-inside}
+use Rattle.valued.proofs.InRange.{InRange, in-column, in-shared, in-none, in-more, in-over, in-one, in-argument, in-two, in-scaled}
 
 -- ---- lists of parts
 

@@ -25,10 +25,10 @@ use Rattle.model_reading.specs.Reading.{yields, reading}
 use Rattle.model_reading.proofs.Standing.{size-any}
 use Rattle.model_reading.proofs.Reading.{yields-exactly}
 use Rattle.expression.specs.Value.{value, inRange, patterns}
 use Rattle.row_values.specs.Answer.{valueFault, sharedValues, sharedFault, rowsFault, valuesFault, refusal, refusedBy}
 use Rattle.row_values.proofs.Answers.{value-proper}
-use Rattle.row_values.proofs.Laws.{says-none}
-use Rattle.row_values.proofs.Order.{refusal-first}
+use Rattle.valued.proofs.Laws.{says-none}
+use Rattle.valued.proofs.Order.{refusal-first}
 
 -- a shared part, row or objective: its beginning word's kind, load and place, the values of the shared parts before it, its expression
 pub record Part : Type 0 where

@@ -15,9 +15,9 @@ use Rattle.acopf.specs.Rows.{Row, pBalanceRow, qBalanceRow, referenceRow, rows}
 use Rattle.acopf.specs.Model.{model}
 use Rattle.expression.proofs.Lists.{any-default}
 use Rattle.expression.specs.Value.{value, valuesOf}
-use Rattle.compiled_values.specs.Spared.{AnglesRight, RowsSpared, Spared}
-use Rattle.compiled_values.proofs.TrigFree.{RowInRange, rows-in, objective-in}
-use Rattle.compiled_values.proofs.SharedParts.{shared-spared}
+use Rattle.valued.specs.Spared.{AnglesRight, RowsSpared, Spared}
+use Rattle.valued.proofs.TrigFree.{RowInRange, rows-in, objective-in}
+use Rattle.valued.proofs.SharedParts.{shared-spared}
 
 module _ (ws : List ℕ) (xs point values : List Float) where
   abbrev ofRow : Row → Float
