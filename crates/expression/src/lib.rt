@@ -32,6 +32,16 @@ fn step(kind: u32, a: f64, b: f64) -> f64
     a + b
 }
 
+// The same for operand i: the first is taken as it is.
+fn fold(kind: u32, i: usize, total: f64, b: f64) -> f64
+    ensures { λ r. ⌜ r ≡ cond (eqb i 0) b (step kind total b) ⌝ }
+{
+    if i == 0 {
+        return b;
+    }
+    step(kind, total, b)
+}
+
 // Square, cosine or sine; of other kinds the operands as gathered.
 fn applied(kind: u32, a: f64) -> f64
     ensures { λ r. ⌜ r ≡ applied kind a ⌝ }
@@ -232,7 +242,7 @@ fn leaf(kind: u32, load: usize, constants: &[f64], point: &[f64], shared: &[f64]
     number_at(shared, load)
 }
 
-// Operand i, gathered with those before it: the first is taken as it is.
+// Operand i, gathered with those before it.
 fn gather(kind: u32, i: usize, before: Scanned, e: Scanned) -> Scanned
     ensures { λ s. ⌜ s ≡ record {
       value = cond (eqb i 0) (e .value) (step kind (before .value) (e .value));
@@ -241,16 +251,8 @@ fn gather(kind: u32, i: usize, before: Scanned, e: Scanned) -> Scanned
       next = e .next;
     } ⌝ }
 {
-    if i == 0 {
-        return Scanned {
-            value: e.value,
-            in_range: before.in_range & e.in_range,
-            at: e.at,
-            next: e.next,
-        };
-    }
     Scanned {
-        value: step(kind, before.value, e.value),
+        value: fold(kind, i, before.value, e.value),
         in_range: before.in_range & e.in_range,
         at: e.at,
         next: e.next,
