@@ -3,6 +3,7 @@
 // A slice of shared values is as long as the number of shared parts that may be named, and the point as long as the number of columns, so
 // that one comparison is both the reading rule and the bound of the read. Most operands are a constant, a column, a shared part or the
 // product of two such: these are tried first, without a call of their own.
+use nl::DEPTH_LIMIT;
 use nl::Head;
 ghost use mathlib.Core.Path.{_≡_};
 ghost use mathlib.Core.Bool.{true, cond, _&&_};
@@ -15,9 +16,6 @@ ghost use Rattle.nl.specs.File.{depthLimit};
 ghost use Rattle.model_reading.specs.Parse.{leafOf};
 ghost use Rattle.expression.specs.Value.{step, applied, inside, argumentOk, value, patterns};
 ghost use Rattle.expression.specs.contracts.Scan.{Finds, Scans};
-
-// How deep expressions nest; a leaf is 1.
-const DEPTH_LIMIT: u32 = 8;
 
 // One operand more of a sum, a difference or a product.
 fn step(kind: u32, a: f64, b: f64) -> f64
@@ -350,9 +348,5 @@ pub fn scan(
 ) -> Scanned
     ensures { λ s. ⌜ Scans (now (words .entry)) (now (constants .entry)) (now (point .entry)) (now (shared .entry)) depthLimit at k s ⌝ }
 {
-    let e = leaf_at(words, at, k, constants, point, shared);
-    if e.at != 0 {
-        return e;
-    }
     scan_expr(words, at, DEPTH_LIMIT, k, constants, point, shared)
 }

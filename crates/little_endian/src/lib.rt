@@ -1,8 +1,8 @@
 // Numbers of 32 and 64 bits from a list of bytes, the lowest byte first.
 ghost use mathlib.Core.Path.{_≡_};
-ghost use Prim.Native.Nat.{_+_, _*_, _≤_};
+ghost use Prim.Native.Nat.{_+_, _*_, _≤_, _<_};
 ghost use lib.ListN.{length};
-ghost use Rattle.little_endian.specs.Bytes.{wordAt, bitsAt, numberAt};
+ghost use Rattle.little_endian.specs.Bytes.{wordAt, bitsAt, numberAt, recordWord};
 
 fn wide(b: u8) -> u32
     ensures { λ r. ⌜ (r ≡ b) × (r ≤ 255) ⌝ }
@@ -38,4 +38,24 @@ pub fn number_at(bytes: &[u8], at: usize) -> f64
     ensures { λ r. ⌜ r ≡ numberAt (now (bytes .entry)) at ⌝ }
 {
     float::from_bits(bits_at(bytes, at))
+}
+
+// Word i of a record that starts at word `at`; 0 past the last whole word.
+pub fn record_word(bytes: &[u8], at: usize, i: usize) -> u32
+    ensures { λ r. ⌜ r ≡ recordWord (now (bytes .entry)) at i ⌝ }
+{
+    let n = bytes.len() / 4;
+    if n <= at {
+        return 0;
+    }
+    if n - at <= i {
+        return 0;
+    }
+    word_at(bytes, (at + i) * 4)
+}
+
+pub fn record_number(bytes: &[u8], at: usize, i: usize) -> usize
+    ensures { λ r. ⌜ (r ≡ recordWord (now (bytes .entry)) at i) × (r < 4294967296) ⌝ }
+{
+    record_word(bytes, at, i) as usize
 }

@@ -13,7 +13,7 @@ ghost use Rattle.model_reading.specs.Reading.{layoutAfter, fileLayout};
 ghost use Rattle.model_reading.specs.Counts.{rowCounts, noCounts};
 
 // The most shared parts that are worked out.
-const SHARED_LIMIT: usize = 4352;
+pub const SHARED_LIMIT: usize = 4352;
 
 // A file that passes reading: its numbers of shared parts and rows, the first row's and the objective's beginning words, and shared part
 // 4,352's where there is one. Else the first wrong word.

@@ -20,7 +20,7 @@ ghost use Rattle.nl.specs.contracts.Named.{namedBy};
 ghost use Rattle.nl.specs.Same.{agree, same};
 
 // How deep expressions nest; a leaf is 1.
-const DEPTH_LIMIT: u32 = 8;
+pub const DEPTH_LIMIT: u32 = 8;
 
 // Where what was read ends, and the number of the next constant; or the first wrong word.
 pub enum Read {

@@ -1,31 +1,14 @@
 // Replays the model files of data/files, each with the answer that document 01 gives of it (tests/nl/files.py, which says how a
 // record is laid out), and prints how many there are and for how many an answer is another.
 use libc::STDOUT_FILENO;
-use little_endian::word_at;
+use little_endian::record_number;
+use little_endian::record_word;
 ghost use mathlib.Core.Path.{_≡_};
 ghost use Prim.Native.Nat.{_≤_, _<_};
 ghost use lib.ListN.{length};
 
 // The most words that a record's file has.
 const MOST: usize = 64;
-
-// The record's word i, where the record starts at word `at`; 0 past the data.
-fn word(data: &[u8], at: usize, i: usize) -> u32 {
-    let n = data.len() / 4;
-    if n <= at {
-        return 0;
-    }
-    if n - at <= i {
-        return 0;
-    }
-    word_at(data, (at + i) * 4)
-}
-
-fn number(data: &[u8], at: usize, i: usize) -> usize
-    ensures { λ r. ⌜ r < 4294967296 ⌝ }
-{
-    word(data, at, i) as usize
-}
 
 // The record's words from word i on.
 fn words_at(data: &[u8], at: usize, i: usize) -> [u32; 64]
@@ -35,7 +18,7 @@ fn words_at(data: &[u8], at: usize, i: usize) -> [u32; 64]
     let mut out = [0u32; 64];
     let mut k: usize = 0;
     while k < 64 {
-        out[k] = word(data, at, i + k);
+        out[k] = record_word(data, at, i + k);
         k += 1;
     }
     out
@@ -63,7 +46,7 @@ fn values_at(data: &[u8], at: usize, i: usize) -> [f64; 64]
     let mut out = [0.0; 64];
     let mut k: usize = 0;
     while k < 64 {
-        out[k] = value(word(data, at, i + k));
+        out[k] = value(record_word(data, at, i + k));
         k += 1;
     }
     out
@@ -85,14 +68,14 @@ fn same_part(a: &[u32], b: &[u32]) -> bool {
 
 // Whether number and place are those of the record, by the finder and by its form for C.
 fn fault_right(data: &[u8], at: usize, words: &[u32]) -> bool {
-    let constants = number(data, at, 1);
-    let columns = number(data, at, 2);
-    let r = number(data, at, 3);
+    let constants = record_number(data, at, 1);
+    let columns = record_number(data, at, 2);
+    let r = record_number(data, at, 3);
     let f = nl::find_row(words, constants, columns, r);
-    if f.number != word(data, at, 4) {
+    if f.number != record_word(data, at, 4) {
         return false;
     }
-    if f.place != number(data, at, 5) {
+    if f.place != record_number(data, at, 5) {
         return false;
     }
     let packed = nl::fervoulk_find_row(words, constants, columns, r);
@@ -104,11 +87,11 @@ fn fault_right(data: &[u8], at: usize, words: &[u32]) -> bool {
 
 // Whether the row's part is that of the record, and what C is told of it.
 fn part_right(data: &[u8], at: usize, words: &[u32]) -> bool {
-    let constants = number(data, at, 1);
-    let columns = number(data, at, 2);
-    let r = number(data, at, 3);
-    let start = number(data, at, 6);
-    let length = number(data, at, 7);
+    let constants = record_number(data, at, 1);
+    let columns = record_number(data, at, 2);
+    let r = record_number(data, at, 3);
+    let start = record_number(data, at, 6);
+    let length = record_number(data, at, 7);
     let end = start + length;
     if words.len() < end {
         return false;
@@ -123,7 +106,7 @@ fn part_right(data: &[u8], at: usize, words: &[u32]) -> bool {
 }
 
 fn finder_right(data: &[u8], at: usize) -> bool {
-    let n = number(data, at, 8);
+    let n = record_number(data, at, 8);
     if MOST < n {
         return false;
     }
@@ -137,10 +120,10 @@ fn finder_right(data: &[u8], at: usize) -> bool {
 
 // Whether `same` and its form for C answer as the record says.
 fn same_right(data: &[u8], at: usize) -> bool {
-    let na = number(data, at, 2);
-    let ca = number(data, at, 3);
-    let nb = number(data, at, 4);
-    let cb = number(data, at, 5);
+    let na = record_number(data, at, 2);
+    let ca = record_number(data, at, 3);
+    let nb = record_number(data, at, 4);
+    let cb = record_number(data, at, 5);
     if MOST < na {
         return false;
     }
@@ -157,7 +140,7 @@ fn same_right(data: &[u8], at: usize) -> bool {
     let constants_a = values_at(data, at, 6 + na);
     let words_b = words_at(data, at, 6 + na + ca);
     let constants_b = values_at(data, at, 6 + na + ca + nb);
-    let answer = word(data, at, 1);
+    let answer = record_word(data, at, 1);
     one_same(
         &words_a[..na],
         &constants_a[..ca],
@@ -181,7 +164,7 @@ fn one_same(
 }
 
 fn right(data: &[u8], at: usize) -> bool {
-    if word(data, at, 0) == 0 {
+    if record_word(data, at, 0) == 0 {
         return finder_right(data, at);
     }
     same_right(data, at)
@@ -191,10 +174,14 @@ fn right(data: &[u8], at: usize) -> bool {
 fn size(data: &[u8], at: usize) -> usize
     ensures { λ r. ⌜ (1 ≤ r) × (r < 34359738368) ⌝ }
 {
-    if word(data, at, 0) == 0 {
-        return 9 + number(data, at, 8);
+    if record_word(data, at, 0) == 0 {
+        return 9 + record_number(data, at, 8);
     }
-    6 + number(data, at, 2) + number(data, at, 3) + number(data, at, 4) + number(data, at, 5)
+    6
+        + record_number(data, at, 2)
+        + record_number(data, at, 3)
+        + record_number(data, at, 4)
+        + record_number(data, at, 5)
 }
 
 pub struct Tally {

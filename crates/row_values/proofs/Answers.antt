@@ -1,7 +1,7 @@
 -- From places to the model: a file that was gone through has the values, the faults and the refusal that Answer says.
 use mathlib.Core.Path.{_≡_, refl, ap, ap₂, sym, subst, _∙_}
 use mathlib.Core.List.{List, [], _∷_, _++_}
-use mathlib.Core.Bool.{Bool, true, false, cond}
+use mathlib.Core.Bool.{Bool, true, false}
 use Prim.Native.Nat.{ℕ, zero, suc, _+_, _≤_}
 use native.Mathlib.Omega.{arith}
 use lib.ListN.{length, take, drop, length-map}
@@ -11,9 +11,9 @@ use lib.Ieee.{Float, binary64, toBits}
 use borrow.Author.Tests.{leb-true, leb-false, le-leb, ne-eqb}
 use Rattle.base.specs.declared.Fault.{Fault}
 use Rattle.base.specs.Fault.{fault, clear, unless, orElse}
-use Rattle.base.specs.Refusal.{POINT, SWING, MODEL, VALUE}
-use Rattle.base.proofs.Firsts.{Clear, Proper, or-go, or-stop, or-left, or-right, or-proper, unless-proper}
-use Rattle.float.specs.Number.{isFinite, zero64}
+use Rattle.base.specs.Refusal.{POINT, MODEL}
+use Rattle.base.proofs.Firsts.{Clear, Proper, or-go, or-stop, or-left, or-right, or-proper}
+use Rattle.float.specs.Number.{zero64}
 use Rattle.nl.specs.declared.Parts.the-variants.{Stop, Bad}
 use Rattle.nl.specs.Expr.{Expr, Terms, none, more, count}
 use Rattle.nl.specs.File.{Model}
@@ -35,7 +35,9 @@ use Rattle.row_values.specs.declared.scan.Scan.{Scan}
 use Rattle.row_values.specs.declared.scan.Scan.the-variants as scanned
 use Rattle.lists.specs.Finite.{pointFault}
 use Rattle.row_values.specs.Answer.{valueFault, sharedValues, sharedFault, rowsFault, valuesFault, sizeFault, roomFault, refusal, allShared, allRows, objectiveValue, refusedBy, rowValues, sharedAfter, rowsAfter}
-use Rattle.row_values.specs.contracts.Run.{roomOf, termsAt, partValue, partFault, sharedPass, rowsPass, RowsScanned, rowsOf, Writable, FileRun, FileScanned, lengthFault, Settled}
+use Rattle.row_values.specs.Answer.{roomOf}
+use Rattle.row_values.specs.contracts.Run.{termsAt, partValue, partFault, sharedPass, rowsPass, RowsScanned, rowsOf, Writable, FileRun, FileScanned, lengthFault, Settled}
+use Rattle.row_values.proofs.Passes.{refused-proper}
 use Rattle.row_values.proofs.Refusals.{has-room}
 
 -- ---- how many
@@ -241,11 +243,7 @@ rows-kept ws xs point values f kept before after w h e = e ∙ ap (λ l. l ++ dr
 -- a refusal whose number is 0 has place 0
 pub value-proper : (point values : List Float) (at : ℕ) (e : Expr) → Proper (valueFault point values at e)
 unfolding valueFault
-value-proper point values at e = go (inRange point values e)
-  where
-    go : (b : Bool) → Proper (cond b (unless (isFinite (value point values e)) (fault VALUE at)) (fault SWING at))
-    go true = unless-proper (isFinite (value point values e)) VALUE at (omega arith)
-    go false = λ z. absurd (omega arith)
+value-proper point values at e = refused-proper (inRange point values e) (value point values e) at
 
 pub refusal-proper : (columns : ℕ) (point : List Float) (lentShared lentRows : ℕ) (r : Reading) → Proper (refusal columns point lentShared lentRows r)
 unfolding refusal valuesFault

@@ -24,7 +24,7 @@ use Rattle.model_reading.specs.Reading.{sharedLimit}
 use Rattle.expression.specs.declared.Scanned.{Scanned}
 use Rattle.expression.specs.Value.{patterns}
 use Rattle.expression.specs.contracts.Scan.{Reads, evaluated, worth}
-use Rattle.row_values.specs.Answer.{valueFault}
+use Rattle.row_values.specs.Answer.{refusedValue, valueFault}
 use Rattle.row_values.specs.contracts.Run.{scannedFault, partValue, partFault, TooMany}
 
 -- ---- the first fault so far, and one part's
@@ -43,15 +43,12 @@ module _ (earlier : Fault) (s : Scanned) (at : ℕ) (h : Clear earlier) where
     spared t = sym (or-go earlier (scannedFault s at) h ∙ rw (not-false (s .«in_range») r, ← e, not-false finite t))
 
 -- a fault whose number is 0 has place 0
-pub scanned-proper : (s : Scanned) (at : ℕ) → Proper (scannedFault s at)
-scanned-proper s at = go (s .«in_range»)
-  where
-    go : (b : Bool) → Proper (cond b (unless (isFinite (s .value)) (fault VALUE at)) (fault SWING at))
-    go true = unless-proper (isFinite (s .value)) VALUE at (omega arith)
-    go false = λ z. absurd (omega arith)
+pub refused-proper : (ranged : Bool) (v : Float) (at : ℕ) → Proper (refusedValue ranged v at)
+refused-proper true v at = unless-proper (isFinite v) VALUE at (omega arith)
+refused-proper false v at = λ z. absurd (omega arith)
 
 pub next-proper : (earlier f : Fault) (s : Scanned) (at : ℕ) → f ≡ orElse earlier (scannedFault s at) → Proper f
-next-proper earlier f s at e = rw e (or-proper earlier (scannedFault s at) (scanned-proper s at))
+next-proper earlier f s at e = rw e (or-proper earlier (scannedFault s at) (refused-proper (s .«in_range») (s .value) at))
 
 module _ (ws : List ℕ) (xs point : List Float) where
   -- ---- a part that was scanned, by its place

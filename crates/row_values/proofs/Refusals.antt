@@ -12,7 +12,8 @@ use Rattle.base.specs.Refusal.{SHORT, POINT}
 use Rattle.base.proofs.Firsts.{Clear, or-go, or-stop, or-left, or-right, unless-true}
 use Rattle.model_reading.specs.declared.Counts.{Counts}
 use Rattle.model_reading.specs.Counts.{rowCounts}
-use Rattle.row_values.specs.contracts.Run.{roomOf, lengthFault}
+use Rattle.row_values.specs.Answer.{roomOf}
+use Rattle.row_values.specs.contracts.Run.{lengthFault}
 
 -- ---- 12
 

@@ -1,6 +1,6 @@
 -- Document 02 (a): the answer, and what the two lent lists hold after the call.
 use Prim.Native.Nat.{ℕ, _+_}
-use mathlib.Core.Bool.{cond}
+use mathlib.Core.Bool.{Bool, cond}
 use mathlib.Core.List.{List, [], _∷_, _++_}
 use lib.Dec.{leb, eqb}
 use lib.ListN.{length}
@@ -17,10 +17,12 @@ use Rattle.model_reading.specs.Place.{size, placeOf}
 use Rattle.expression.specs.Value.{value, valuesOf, inRange, patterns}
 use Rattle.row_values.specs.declared.RowValues.{RowValues}
 
--- "14 first within one part, with its beginning word as the place"
+-- "14 first within one part, with its beginning word as the place", where this is the part's value and its arguments are in range or not
+abbrev pub refusedValue : Bool → Float → ℕ → Fault
+refusedValue ranged value at = cond ranged (unless (isFinite value) (fault VALUE at)) (fault SWING at)
+
 unfoldable pub valueFault : List Float → List Float → ℕ → Expr → Fault
-valueFault point values at e =
-    cond (inRange point values e) (unless (isFinite (value point values e)) (fault VALUE at)) (fault SWING at)
+valueFault point values at e = refusedValue (inRange point values e) (value point values e) at
 
 module _ (point : List Float) where
   -- shared parts in order, each by the values of those before it: "a shared part is worked out once"
@@ -50,10 +52,13 @@ module _ (point : List Float) where
 abbrev pub sizeFault : Model → Fault
 sizeFault M = unless (leb (count (M .shared)) sharedLimit) (fault SIZE (placeOf sharedLimit 0 (M .shared)))
 
--- "Shared values and row values go to two lent lists, counted in that order for 12"
+-- "Shared values and row values go to two lent lists, counted in that order for 12", by the numbers of shared parts and rows
+abbrev pub roomOf : ℕ → ℕ → ℕ → ℕ → Fault
+roomOf shared rows lentShared lentRows =
+    orElse (unless (leb shared lentShared) (fault SHORT 1)) (unless (leb rows lentRows) (fault SHORT 2))
+
 abbrev pub roomFault : ℕ → ℕ → Model → Fault
-roomFault lentShared lentRows M =
-    orElse (unless (leb (count (M .shared)) lentShared) (fault SHORT 1)) (unless (leb (count (M .rows)) lentRows) (fault SHORT 2))
+roomFault lentShared lentRows M = roomOf (count (M .shared)) (count (M .rows)) lentShared lentRows
 
 module _ (columns : ℕ) (point : List Float) (lentShared lentRows : ℕ) where
   -- "A file is read under 17, then .. size .., then 12 and 13 apply, then 14 .." and 19

@@ -12,6 +12,7 @@ use base::Fault;
 use base::refusal;
 use lists::copy_front;
 use lists::point_fault;
+use model_reading::SHARED_LIMIT;
 use model_reading::row_counts;
 use scan::File;
 use scan::FileScan;
@@ -25,7 +26,11 @@ ghost use Rattle.float.specs.Number.{zero64};
 ghost use Rattle.lists.specs.Finite.{pointFault};
 ghost use Rattle.model_reading.specs.Reading.{sharedLimit};
 ghost use Rattle.row_values.specs.Answer.{rowValues, sharedAfter, rowsAfter};
-ghost use Rattle.row_values.specs.contracts.Run.{roomOf, lengthFault, Settled, Writable, rowsOf};
+ghost use Rattle.row_values.specs.Answer.{roomOf};
+ghost use Rattle.row_values.specs.contracts.Run.{lengthFault, Settled, Writable, rowsOf};
+
+// How many row values are kept before they are written: as many rows as compile ever writes.
+const ROWS_KEPT: usize = 6144;
 
 // 12: the list for shared values, else that for row values.
 fn room_fault(shared: usize, rows: usize, lent_shared: usize, lent_rows: usize) -> Fault
@@ -196,7 +201,7 @@ fn write_rows(
     );
 }
 
-// Every shared part's, row's and the objective's value of a model file at a point. (6,144 is the most rows that compile writes.)
+// Every shared part's, row's and the objective's value of a model file at a point.
 pub fn row_values(
     words: &[u32],
     constants: &[f64],
@@ -211,8 +216,8 @@ pub fn row_values(
         × (now («shared_out» .exit) ≡ sharedAfter ws xs columns x shared rows)
         × (now («rows_out» .exit) ≡ rowsAfter ws xs columns x shared rows)) ⌝ }
 {
-    let mut shared = [0.0; 4352];
-    let mut rows = [0.0; 6144];
+    let mut shared = [0.0; SHARED_LIMIT];
+    let mut rows = [0.0; ROWS_KEPT];
     let lent_shared = shared_out.len();
     let lent_rows = rows_out.len();
     let file = settled(

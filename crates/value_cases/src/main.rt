@@ -3,29 +3,12 @@
 use base::Fault;
 use libc::STDOUT_FILENO;
 use little_endian::number_at;
-use little_endian::word_at;
+use little_endian::record_number;
+use little_endian::record_word;
 use row_values::RowValues;
 ghost use mathlib.Core.Path.{_≡_};
 ghost use Prim.Native.Nat.{_≤_, _<_};
 ghost use lib.ListN.{length};
-
-// The record's word i, where the record starts at word `at`; 0 past the data.
-fn word(data: &[u8], at: usize, i: usize) -> u32 {
-    let n = data.len() / 4;
-    if n <= at {
-        return 0;
-    }
-    if n - at <= i {
-        return 0;
-    }
-    word_at(data, (at + i) * 4)
-}
-
-fn number(data: &[u8], at: usize, i: usize) -> usize
-    ensures { λ r. ⌜ r < 4294967296 ⌝ }
-{
-    word(data, at, i) as usize
-}
 
 // The double of which word i is the low half; 0 past the data.
 fn double(data: &[u8], at: usize, i: usize) -> f64 {
@@ -60,24 +43,24 @@ fn counted_up(w: u32, q: usize) -> u32
 fn list_word(data: &[u8], at: usize, i: usize, k: usize) -> u32
     requires { ⌜ (i < 4294967296) × (k < 4294967296) ⌝ }
 {
-    let head = number(data, at, i + 1);
-    let middle = number(data, at, i + 2);
+    let head = record_number(data, at, i + 1);
+    let middle = record_number(data, at, i + 2);
     if k < head {
-        return word(data, at, i + 3 + k);
+        return record_word(data, at, i + 3 + k);
     }
     if k - head < middle {
         let q = k - head;
-        return counted_up(word(data, at, i + 3 + head + q % 2), q);
+        return counted_up(record_word(data, at, i + 3 + head + q % 2), q);
     }
-    word(data, at, i + 5 + (k - middle))
+    record_word(data, at, i + 5 + (k - middle))
 }
 
 // Double k of the list of doubles that stands at the record's word i.
 fn list_double(data: &[u8], at: usize, i: usize, k: usize) -> f64
     requires { ⌜ (i < 4294967296) × (k < 4294967296) ⌝ }
 {
-    let head = number(data, at, i + 1);
-    let middle = number(data, at, i + 2);
+    let head = record_number(data, at, i + 1);
+    let middle = record_number(data, at, i + 2);
     if k < head {
         return double(data, at, i + 3 + 2 * k);
     }
@@ -92,7 +75,7 @@ fn words_into(data: &[u8], at: usize, i: usize, out: &mut [u32]) -> usize
     requires { ⌜ i < 4294967296 ⌝ }
     ensures { λ r. ⌜ r ≤ length (now (out .exit)) ⌝ }
 {
-    let n = number(data, at, i);
+    let n = record_number(data, at, i);
     if out.len() < n {
         return 0;
     }
@@ -109,7 +92,7 @@ fn doubles_into(data: &[u8], at: usize, i: usize, out: &mut [f64]) -> usize
     requires { ⌜ i < 4294967296 ⌝ }
     ensures { λ r. ⌜ r ≤ length (now (out .exit)) ⌝ }
 {
-    let n = number(data, at, i);
+    let n = record_number(data, at, i);
     if out.len() < n {
         return 0;
     }
@@ -129,7 +112,7 @@ fn same_bits(x: f64, y: f64) -> bool {
 fn list_right(data: &[u8], at: usize, i: usize, list: &[f64]) -> bool
     requires { ⌜ i < 4294967296 ⌝ }
 {
-    let n = number(data, at, i);
+    let n = record_number(data, at, i);
     let mut k: usize = 0;
     while k < list.len() {
         let expected = if k < n {
@@ -147,7 +130,7 @@ fn list_right(data: &[u8], at: usize, i: usize, list: &[f64]) -> bool
 
 // Whether the record says the objective (0), the shared values (1), the row values (2).
 fn says(data: &[u8], at: usize, what: usize) -> bool {
-    let said = number(data, at, 8);
+    let said = record_number(data, at, 8);
     if what == 0 {
         return said % 2 == 1;
     }
@@ -160,21 +143,21 @@ fn says(data: &[u8], at: usize, what: usize) -> bool {
 // Both lists, whole: what was lent, and what lies behind it.
 fn lists_right(data: &[u8], at: usize, shared: &[f64], rows: &[f64]) -> bool {
     if says(data, at, 1) {
-        if !list_right(data, at, number(data, at, 14), shared) {
+        if !list_right(data, at, record_number(data, at, 14), shared) {
             return false;
         }
     }
     if says(data, at, 2) {
-        return list_right(data, at, number(data, at, 15), rows);
+        return list_right(data, at, record_number(data, at, 15), rows);
     }
     true
 }
 
 fn fault_right(data: &[u8], at: usize, fault: Fault) -> bool {
-    if fault.number != word(data, at, 4) {
+    if fault.number != record_word(data, at, 4) {
         return false;
     }
-    fault.place == number(data, at, 5)
+    fault.place == record_number(data, at, 5)
 }
 
 // Whether the counts are those of the record, or 0 and 0.
@@ -182,7 +165,7 @@ fn counts_right(data: &[u8], at: usize, shared: usize, rows: usize, some: bool) 
     if !some {
         return shared == 0 && rows == 0;
     }
-    shared == number(data, at, 9) && rows == number(data, at, 10)
+    shared == record_number(data, at, 9) && rows == record_number(data, at, 10)
 }
 
 fn answer_right(data: &[u8], at: usize, answer: RowValues) -> bool {
@@ -213,9 +196,9 @@ fn lent_right(
     shared: &mut [f64],
     rows: &mut [f64],
 ) -> bool {
-    let columns = number(data, at, 1);
-    let lent_shared = number(data, at, 2);
-    let lent_rows = number(data, at, 3);
+    let columns = record_number(data, at, 1);
+    let lent_shared = record_number(data, at, 2);
+    let lent_rows = record_number(data, at, 3);
     if shared.len() < lent_shared {
         return false;
     }
@@ -244,8 +227,8 @@ fn values_right(data: &[u8], at: usize, words: &[u32], constants: &[f64], point:
 
 // The counts of a file: 17 and 2 alone refuse them.
 fn file_right(data: &[u8], at: usize, words: &[u32], constants: usize) -> bool {
-    let counts = model_reading::row_counts(words, constants, number(data, at, 1));
-    let refusal = word(data, at, 4);
+    let counts = model_reading::row_counts(words, constants, record_number(data, at, 1));
+    let refusal = record_word(data, at, 4);
     if refusal == 2 || refusal == 17 {
         if !fault_right(data, at, counts.fault) {
             return false;
@@ -262,9 +245,9 @@ fn right(data: &[u8], at: usize) -> bool {
     let mut words = [0u32; 12544];
     let mut constants = [0.0; 64];
     let mut point = [0.0; 64];
-    let w = words_into(data, at, number(data, at, 11), &mut words);
-    let c = doubles_into(data, at, number(data, at, 12), &mut constants);
-    let p = doubles_into(data, at, number(data, at, 13), &mut point);
+    let w = words_into(data, at, record_number(data, at, 11), &mut words);
+    let c = doubles_into(data, at, record_number(data, at, 12), &mut constants);
+    let p = doubles_into(data, at, record_number(data, at, 13), &mut point);
     if !file_right(data, at, &words[..w], c) {
         return false;
     }
@@ -283,7 +266,7 @@ fn replay(data: &[u8]) -> Tally {
     let mut cases: usize = 0;
     let mut wrong: usize = 0;
     while at < n {
-        let size = number(data, at, 0);
+        let size = record_number(data, at, 0);
         if size == 0 {
             return Tally { cases, wrong };
         }

@@ -25,7 +25,7 @@ use Rattle.expression.specs.Value.{step, fold, gathered, applied, inside, argum
 use Rattle.row_values.specs.Answer.{valueFault, sharedValues, sharedFault, rowsFault, valuesFault, sizeFault, roomFault, refusal, refusedBy}
 use Rattle.valued.proofs.Laws.{says-none, inside-finite, one-finite}
 use Rattle.valued.proofs.Order.{values-give}
-use Rattle.valued.proofs.FileOrder.{Part, All, Spared}
+use Rattle.valued.proofs.FileOrder.{Part, All, Sound}
 
 -- ---- a finite sum, difference or product has finite operands
 
@@ -181,7 +181,7 @@ module _ (point : List Float) where
       (patterns-append (constantsOf (M .rows)) (constants (M .objective)) (rows-constants values (M .rows) _ (or-left rows _ r)) (part-constants point values _ (M .objective) (or-right rows _ r)))
 
   -- the parts before the first that is refused (`FirstPart` in FileOrder) have finite constants: one that is not finite stands there or later
-  pub spared-constants : (ps : List Part) → All (Spared point) ps → All (λ p. FinitePatterns (constants (p .expr))) ps
+  pub spared-constants : (ps : List Part) → All (Sound point) ps → All (λ p. FinitePatterns (constants (p .expr))) ps
   spared-constants [] h = tt
   spared-constants (p ∷ ps) h = (expression-constants point (p .named) (p .expr) (h .0 .ranges) (h .0 .finite), spared-constants ps (h .1))
 

@@ -80,7 +80,7 @@ module _ (point : List Float) where
   faultOf p = valueFault point (p .named) (p .at) (p .expr)
 
   -- its arguments are inside and its value is finite
-  pub record Spared (p : Part) : Type 0 where
+  pub record Sound (p : Part) : Type 0 where
     pub ranges : inRange point (p .named) (p .expr) ≡ true
     pub finite : isFinite (value point (p .named) (p .expr)) ≡ true
 
@@ -90,7 +90,7 @@ module _ (point : List Float) where
     pub its : Part
     pub after : List Part
     pub splits : ps ≡ before ++ (its ∷ after)
-    pub spared : All Spared before
+    pub spared : All Sound before
     pub answer : f ≡ faultOf its
 
   abbrev firstFault : List Part → Fault

@@ -6,8 +6,8 @@ use borrow.Author.Needs.{needs}
 use Rattle.nl_files.proofs.finder_right.Statement.{statement}
 use Rattle.nl_files.proofs.finder_right.Tie as tie
 
-number-requires : tie.Need-number-requires
-number-requires c κs = search needs
+record-number-requires : tie.Need-record-number-requires
+record-number-requires c κs = search needs
 
 returns : tie.Need-returns
 returns c = search needs
@@ -37,7 +37,7 @@ pub finder-right-spec : {M : Type 1} → statement M
 finder-right-spec =
     tie.close
     (tie.spec
-    number-requires
+    record-number-requires
     returns
     words-at-requires
     array-share-prefix-space

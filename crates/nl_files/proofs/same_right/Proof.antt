@@ -6,17 +6,17 @@ use borrow.Author.Needs.{needs}
 use Rattle.nl_files.proofs.same_right.Statement.{statement}
 use Rattle.nl_files.proofs.same_right.Tie as tie
 
-number-requires : tie.Need-number-requires
-number-requires c κs = search needs
+record-number-requires : tie.Need-record-number-requires
+record-number-requires c κs = search needs
 
-number-requires-2 : tie.Need-number-requires-2
-number-requires-2 c κs = search needs
+record-number-requires-2 : tie.Need-record-number-requires-2
+record-number-requires-2 c κs = search needs
 
-number-requires-3 : tie.Need-number-requires-3
-number-requires-3 c κs = search needs
+record-number-requires-3 : tie.Need-record-number-requires-3
+record-number-requires-3 c κs = search needs
 
-number-requires-4 : tie.Need-number-requires-4
-number-requires-4 c κs = search needs
+record-number-requires-4 : tie.Need-record-number-requires-4
+record-number-requires-4 c κs = search needs
 
 returns : tie.Need-returns
 returns c = search needs
@@ -60,8 +60,8 @@ add-values-at-4 c = search needs
 values-at-requires-2 : tie.Need-values-at-requires-2
 values-at-requires-2 c κs = search needs
 
-word-requires : tie.Need-word-requires
-word-requires c κs = search needs
+record-word-requires : tie.Need-record-word-requires
+record-word-requires c κs = search needs
 
 array-share-prefix-words-a : tie.Need-array-share-prefix-words-a
 array-share-prefix-words-a c = search needs
@@ -97,10 +97,10 @@ pub same-right-spec : {M : Type 1} → statement M
 same-right-spec =
     tie.close
     (tie.spec
-    number-requires
-    number-requires-2
-    number-requires-3
-    number-requires-4
+    record-number-requires
+    record-number-requires-2
+    record-number-requires-3
+    record-number-requires-4
     returns
     returns-2
     returns-3
@@ -115,7 +115,7 @@ same-right-spec =
     add-values-at-3
     add-values-at-4
     values-at-requires-2
-    word-requires
+    record-word-requires
     array-share-prefix-words-a
     slice-aggregate-one-same
     array-share-prefix-constants-a

@@ -1,15 +1,12 @@
 -- A file read and worked out in one go, part by part, by the places of their beginning words.
 use Prim.Native.Nat.{ℕ, zero, suc, _≤_, _<_}
 use mathlib.Core.Path.{_≡_}
-use mathlib.Core.Bool.{cond}
 use mathlib.Core.List.{List, [], _∷_, _++_}
-use lib.Dec.{leb}
 use lib.ListN.{length, take, drop}
 use lib.Ieee.{Float}
 use Rattle.base.specs.declared.Fault.{Fault}
-use Rattle.base.specs.Fault.{fault, clear, unless, orElse}
-use Rattle.base.specs.Refusal.{SHORT, POINT, SWING, VALUE}
-use Rattle.float.specs.Number.{isFinite}
+use Rattle.base.specs.Fault.{fault, clear, orElse}
+use Rattle.base.specs.Refusal.{POINT}
 use Rattle.nl.specs.declared.Read.the-variants.{Went, Wrong}
 use Rattle.nl.specs.declared.Parts.{Parts}
 use Rattle.nl.specs.declared.Parts.the-variants.{Stop, Bad}
@@ -29,16 +26,11 @@ use Rattle.row_values.specs.declared.scan.End.the-variants as end
 use Rattle.row_values.specs.declared.scan.File.{File}
 use Rattle.row_values.specs.declared.scan.FileScan.{FileScan}
 use Rattle.row_values.specs.declared.scan.FileScan.the-variants as file
-use Rattle.row_values.specs.Answer.{valueFault, sharedValues, allShared, allRows, objectiveValue, refusedBy}
-
--- 12, by the numbers of shared parts and rows
-abbrev pub roomOf : ℕ → ℕ → ℕ → ℕ → Fault
-roomOf shared rows lentShared lentRows =
-    orElse (unless (leb shared lentShared) (fault SHORT 1)) (unless (leb rows lentRows) (fault SHORT 2))
+use Rattle.row_values.specs.Answer.{refusedValue, roomOf, valueFault, sharedValues, allShared, allRows, objectiveValue, refusedBy}
 
 -- "14 first within one part", of what was worked out
 abbrev pub scannedFault : Scanned → ℕ → Fault
-scannedFault e at = cond (e .«in_range») (unless (isFinite (e .value)) (fault VALUE at)) (fault SWING at)
+scannedFault e at = refusedValue (e .«in_range») (e .value) at
 
 module _ (ws : List ℕ) (xs point : List Float) where
   -- n parts from `at` on

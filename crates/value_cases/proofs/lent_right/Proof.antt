@@ -6,14 +6,14 @@ use borrow.Author.Needs.{needs}
 use Rattle.value_cases.proofs.lent_right.Statement.{statement}
 use Rattle.value_cases.proofs.lent_right.Tie as tie
 
-number-requires : tie.Need-number-requires
-number-requires c κs = search needs
+record-number-requires : tie.Need-record-number-requires
+record-number-requires c κs = search needs
 
-number-requires-2 : tie.Need-number-requires-2
-number-requires-2 c κs = search needs
+record-number-requires-2 : tie.Need-record-number-requires-2
+record-number-requires-2 c κs = search needs
 
-number-requires-3 : tie.Need-number-requires-3
-number-requires-3 c κs = search needs
+record-number-requires-3 : tie.Need-record-number-requires-3
+record-number-requires-3 c κs = search needs
 
 returns : tie.Need-returns
 returns c = search needs
@@ -64,9 +64,9 @@ pub lent-right-spec : {M : Type 1} → statement M
 lent-right-spec =
     tie.close
     (tie.spec
-    number-requires
-    number-requires-2
-    number-requires-3
+    record-number-requires
+    record-number-requires-2
+    record-number-requires-3
     returns
     returns-2
     slice-relend-prefix-row-values

@@ -11,8 +11,8 @@ Inv-loop «data» at i list n k₀ k = k ≤ length list
 abbrev μ-loop : tie.MeasureT-loop
 μ-loop «data» at i list n k₀ k = length list - k
 
-number-requires : tie.Need-number-requires Inv-loop μ-loop
-number-requires c κs = search needs
+record-number-requires : tie.Need-record-number-requires Inv-loop μ-loop
+record-number-requires c κs = search needs
 
 loop-holds : tie.Need-loop-holds Inv-loop μ-loop
 loop-holds c = search needs
@@ -50,7 +50,7 @@ list-right-spec =
     (tie.spec
     Inv-loop
     μ-loop
-    number-requires
+    record-number-requires
     loop-holds
     list-double-requires
     mul-same-bits

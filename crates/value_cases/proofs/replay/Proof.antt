@@ -15,8 +15,8 @@ abbrev μ-loop : tie.MeasureT-loop
 loop-holds : tie.Need-loop-holds Inv-loop μ-loop
 loop-holds c = search needs
 
-number-requires : tie.Need-number-requires Inv-loop μ-loop
-number-requires c κs = search needs
+record-number-requires : tie.Need-record-number-requires Inv-loop μ-loop
+record-number-requires c κs = search needs
 
 returns : tie.Need-returns Inv-loop μ-loop
 returns c = search needs
@@ -49,7 +49,7 @@ replay-spec =
     Inv-loop
     μ-loop
     loop-holds
-    number-requires
+    record-number-requires
     returns
     right-requires
     add-wrong

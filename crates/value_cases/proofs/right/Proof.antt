@@ -5,8 +5,8 @@ use borrow.Author.Needs.{needs}
 use Rattle.value_cases.proofs.right.Statement.{statement}
 use Rattle.value_cases.proofs.right.Tie as tie
 
-number-requires : tie.Need-number-requires
-number-requires c κs = search needs
+record-number-requires : tie.Need-record-number-requires
+record-number-requires c κs = search needs
 
 slice-aggregate-words-into : tie.Need-slice-aggregate-words-into
 slice-aggregate-words-into c = search needs
@@ -14,8 +14,8 @@ slice-aggregate-words-into c = search needs
 words-into-requires : tie.Need-words-into-requires
 words-into-requires c κs = search needs
 
-number-requires-2 : tie.Need-number-requires-2
-number-requires-2 c κs = search needs
+record-number-requires-2 : tie.Need-record-number-requires-2
+record-number-requires-2 c κs = search needs
 
 slice-aggregate-doubles-into : tie.Need-slice-aggregate-doubles-into
 slice-aggregate-doubles-into c = search needs
@@ -23,8 +23,8 @@ slice-aggregate-doubles-into c = search needs
 doubles-into-requires : tie.Need-doubles-into-requires
 doubles-into-requires c κs = search needs
 
-number-requires-3 : tie.Need-number-requires-3
-number-requires-3 c κs = search needs
+record-number-requires-3 : tie.Need-record-number-requires-3
+record-number-requires-3 c κs = search needs
 
 slice-aggregate-doubles-into-2 : tie.Need-slice-aggregate-doubles-into-2
 slice-aggregate-doubles-into-2 c = search needs
@@ -72,13 +72,13 @@ pub right-spec : {M : Type 1} → statement M
 right-spec =
     tie.close
     (tie.spec
-    number-requires
+    record-number-requires
     slice-aggregate-words-into
     words-into-requires
-    number-requires-2
+    record-number-requires-2
     slice-aggregate-doubles-into
     doubles-into-requires
-    number-requires-3
+    record-number-requires-3
     slice-aggregate-doubles-into-2
     doubles-into-requires-2
     array-share-prefix-words

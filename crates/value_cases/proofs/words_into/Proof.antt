@@ -12,8 +12,8 @@ Inv-loop «data» at i out₀ n k₀ out k = (k ≤ n) × (n ≤ length out) × 
 abbrev μ-loop : tie.MeasureT-loop
 μ-loop «data» at i out₀ n k₀ out k = n - k
 
-number-requires : tie.Need-number-requires Inv-loop μ-loop
-number-requires c κs = search needs
+record-number-requires : tie.Need-record-number-requires Inv-loop μ-loop
+record-number-requires c κs = search needs
 
 returns : tie.Need-returns Inv-loop μ-loop
 returns c = search needs
@@ -51,7 +51,7 @@ words-into-spec =
     (tie.spec
     Inv-loop
     μ-loop
-    number-requires
+    record-number-requires
     returns
     loop-holds
     list-word-requires
