@@ -1,14 +1,14 @@
 -- Reading and working out an expression in one go, a step at a time, as the code does.
 use mathlib.Core.Path.{_≡_, refl, ap, sym, _∙_}
 use mathlib.Core.List.{List}
-use mathlib.Core.Bool.{Bool, true, false, cond, not, _&&_}
+use mathlib.Core.Bool.{Bool, true, false, cond, _&&_}
 use Prim.Native.Nat.{ℕ, zero, suc, _+_, _-_, _≤_, _<_}
 use native.Mathlib.Omega.{arith}
 use native.Mathlib.Nat.{add-zero}
 use lib.ListN.{length, getD}
 use lib.Dec.{T, eqb, ltb}
 use lib.Ieee.{Float, nan, binary64, fits}
-use borrow.Author.Tests.{lt-ltb, eq-eqb, ne-eqb, not-false}
+use borrow.Author.Tests.{lt-ltb, eq-eqb, ne-eqb}
 use Rattle.base.specs.Word.{kindOf, loadOf}
 use Rattle.float.specs.Number.{_⊗_, zero64}
 use Rattle.nl.specs.declared.Read.{Read}

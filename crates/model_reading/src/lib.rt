@@ -9,7 +9,7 @@ ghost use Prim.Native.Nat.{_-_};
 ghost use lib.Dec.{leb};
 ghost use Rattle.base.specs.Fault.{fault, clear};
 ghost use Rattle.base.specs.Refusal.{SIZE};
-ghost use Rattle.model_reading.specs.Reading.{layoutAfter, fileLayout};
+ghost use Rattle.model_reading.specs.Reading.{sharedLimit, layoutAfter, fileLayout};
 ghost use Rattle.model_reading.specs.Counts.{rowCounts, noCounts};
 
 // The most shared parts that are worked out.
@@ -116,7 +116,8 @@ fn no_counts(number: u32, place: usize) -> Counts
 }
 
 fn counted(shared: usize, rows: usize, extra: usize) -> Counts
-    ensures { λ c. ⌜ c ≡ cond (leb shared 4352) (record { fault = clear; shared = shared; rows = rows }) (noCounts (fault SIZE extra)) ⌝ }
+    ensures { λ c. ⌜ c ≡ cond (leb shared sharedLimit) (record { fault = clear; shared = shared; rows = rows })
+        (noCounts (fault SIZE extra)) ⌝ }
 {
     if SHARED_LIMIT < shared {
         return no_counts(refusal::SIZE, extra);

@@ -23,9 +23,10 @@ use Rattle.model_reading.specs.Reading.{Reading, yields, wrong, reading}
 use Rattle.model_reading.proofs.Reading.{yields-exactly}
 use Rattle.expression.specs.Value.{step, fold, gathered, applied, inside, argumentOk, value, valuesOf, inRange, inRangeOf, patterns}
 use Rattle.row_values.specs.Answer.{valueFault, sharedValues, sharedFault, rowsFault, valuesFault, sizeFault, roomFault, refusal, refusedBy}
+use Rattle.valued.specs.FileParts.{Part, All, Sound}
+use Rattle.valued.specs.Outcomes.{FinitePatterns}
 use Rattle.valued.proofs.Laws.{says-none, inside-finite, one-finite}
 use Rattle.valued.proofs.Order.{values-give}
-use Rattle.valued.proofs.FileOrder.{Part, All, Sound}
 
 -- ---- a finite sum, difference or product has finite operands
 
@@ -123,10 +124,6 @@ module _ (point values : List Float) where
         (leaves-finite e (b .0) (h .0), leaves-finite-of ts (b .1) (h .1))
 
 -- ---- constants
-
--- every one of these patterns is that of a finite number
-abbrev pub FinitePatterns : List ℕ → Type 0
-FinitePatterns cs = AllFinite (map (ofBits binary64) cs)
 
 no-patterns : FinitePatterns []
 no-patterns j l = absurd (omega arith)

@@ -15,7 +15,6 @@ use Rattle.base.specs.Word.{word}
 use Rattle.base.proofs.Firsts.{Clear, or-go, or-stop}
 use Rattle.base.proofs.Scans.{or-none, or-assoc}
 use Rattle.base.proofs.Order.{other-number}
-use Rattle.float.specs.Number.{isFinite}
 use Rattle.nl.specs.Expr.{Expr, Terms, none, more, count, next, words}
 use Rattle.nl.specs.File.{Model, partWords, atRows, modelWords, StandsFor}
 use Rattle.nl.proofs.Build.{drop-past, getD-here}
@@ -24,26 +23,12 @@ use Rattle.model_reading.specs.Place.{size, placeOf}
 use Rattle.model_reading.specs.Reading.{yields, reading}
 use Rattle.model_reading.proofs.Standing.{size-any}
 use Rattle.model_reading.proofs.Reading.{yields-exactly}
-use Rattle.expression.specs.Value.{value, inRange, patterns}
+use Rattle.expression.specs.Value.{value, patterns}
 use Rattle.row_values.specs.Answer.{valueFault, sharedValues, sharedFault, rowsFault, valuesFault, refusal, refusedBy}
 use Rattle.row_values.proofs.Answers.{value-proper}
+use Rattle.valued.specs.FileParts.{Part, part, All, rowsAt, objectiveAt, sharedFrom, rowsFrom, partsOf, faultOf, FirstPart, Begins}
 use Rattle.valued.proofs.Laws.{says-none}
 use Rattle.valued.proofs.Order.{refusal-first}
-
--- a shared part, row or objective: its beginning word's kind, load and place, the values of the shared parts before it, its expression
-pub record Part : Type 0 where
-  pub kind : ℕ
-  pub number : ℕ
-  pub at : ℕ
-  pub named : List Float
-  pub expr : Expr
-
-abbrev part : ℕ → ℕ → ℕ → List Float → Expr → Part
-part kind i at values e = record { kind = kind; number = i; at = at; named = values; expr = e }
-
-abbrev pub All : (Part → Type 0) → List Part → Type 0
-All P [] = Unit {0}
-All P (p ∷ ps) = P p × All P ps
 
 all-append : (P : Part → Type 0) (ps qs : List Part) → All P ps → All P qs → All P (ps ++ qs)
 all-append P [] qs h k = k
@@ -54,57 +39,18 @@ all-at P [] after p h = h .0
 all-at P (q ∷ before) after p h = all-at P before after p (h .1)
 
 module _ (point : List Float) where
-  abbrev pub sharedParts : ℕ → ℕ → List Float → Terms → List Part
-  sharedParts i at values none = []
-  sharedParts i at values (more e ts) = part 10 i at values e ∷ sharedParts (i + 1) (at + 1 + size e) (values ++ (value point values e ∷ [])) ts
-
-  abbrev pub rowParts : ℕ → ℕ → List Float → Terms → List Part
-  rowParts i at values none = []
-  rowParts i at values (more e ts) = part 11 i at values e ∷ rowParts (i + 1) (at + 1 + size e) values ts
-
-  abbrev rowsAt : Model → ℕ
-  rowsAt M = placeOf (count (M .shared)) 0 (M .shared)
-
-  abbrev objectiveAt : Model → ℕ
-  objectiveAt M = placeOf (count (M .rows)) (rowsAt M) (M .rows)
-
-  -- all parts of a model, in file order
-  abbrev pub partsOf : Model → List Part
-  partsOf M =
-      let values = sharedValues point [] (M .shared) in
-      sharedParts 0 0 [] (M .shared) ++ (rowParts 0 (rowsAt M) values (M .rows) ++ (part 12 0 (objectiveAt M) values (M .objective) ∷ []))
-
-  -- ---- the first fault
-
-  abbrev pub faultOf : Part → Fault
-  faultOf p = valueFault point (p .named) (p .at) (p .expr)
-
-  -- its arguments are inside and its value is finite
-  pub record Sound (p : Part) : Type 0 where
-    pub ranges : inRange point (p .named) (p .expr) ≡ true
-    pub finite : isFinite (value point (p .named) (p .expr)) ≡ true
-
-  -- f is a part's, and every part before that one is spared
-  pub record FirstPart (ps : List Part) (f : Fault) : Type 0 where
-    pub before : List Part
-    pub its : Part
-    pub after : List Part
-    pub splits : ps ≡ before ++ (its ∷ after)
-    pub spared : All Sound before
-    pub answer : f ≡ faultOf its
-
   abbrev firstFault : List Part → Fault
   firstFault [] = clear
-  firstFault (p ∷ ps) = orElse (faultOf p) (firstFault ps)
+  firstFault (p ∷ ps) = orElse (faultOf point p) (firstFault ps)
 
-  first-part : (ps : List Part) → (Clear (firstFault ps) → ⊥) → FirstPart ps (firstFault ps)
+  first-part : (ps : List Part) → (Clear (firstFault ps) → ⊥) → FirstPart point ps (firstFault ps)
   first-part [] c = absurd (c refl)
-  first-part (p ∷ ps) c = go (eqb (faultOf p .number) 0) refl (first-part ps)
+  first-part (p ∷ ps) c = go (eqb (faultOf point p .number) 0) refl (first-part ps)
     where
-      go : (b : Bool) → eqb (faultOf p .number) 0 ≡ b → ((Clear (firstFault ps) → ⊥) → FirstPart ps (firstFault ps)) → FirstPart (p ∷ ps) (orElse (faultOf p) (firstFault ps))
+      go : (b : Bool) → eqb (faultOf point p .number) 0 ≡ b → ((Clear (firstFault ps) → ⊥) → FirstPart point ps (firstFault ps)) → FirstPart point (p ∷ ps) (orElse (faultOf point p) (firstFault ps))
       go true e k =
-          let z : Clear (faultOf p) = eqb-true _ 0 e in
-          let o = or-go (faultOf p) (firstFault ps) z in
+          let z : Clear (faultOf point p) = eqb-true _ 0 e in
+          let o = or-go (faultOf point p) (firstFault ps) z in
           let r = k (λ y. c (rw o y)) in
           let s = says-none point (p .named) (p .at) (p .expr) .0 z in
           record {
@@ -121,38 +67,38 @@ module _ (point : List Float) where
         after = ps;
         splits = refl;
         spared = tt;
-        answer = or-stop (faultOf p) (firstFault ps) (eqb-false _ 0 e);
+        answer = or-stop (faultOf point p) (firstFault ps) (eqb-false _ 0 e);
       }
 
-  shared-first : (ts : Terms) (i at : ℕ) (values : List Float) (later : List Part) → firstFault (sharedParts i at values ts ++ later) ≡ orElse (sharedFault point at values ts) (firstFault later)
+  shared-first : (ts : Terms) (i at : ℕ) (values : List Float) (later : List Part) → firstFault (sharedFrom point i at values ts ++ later) ≡ orElse (sharedFault point at values ts) (firstFault later)
   shared-first none i at values later = sym (or-go clear (firstFault later) refl)
   shared-first (more e ts) i at values later =
       ap (orElse (valueFault point values at e)) (shared-first ts (i + 1) (at + 1 + size e) (values ++ (value point values e ∷ [])) later)
       ∙ sym (or-assoc (valueFault point values at e) (sharedFault point (at + 1 + size e) (values ++ (value point values e ∷ [])) ts) (firstFault later))
 
-  rows-first : (values : List Float) (ts : Terms) (i at : ℕ) (later : List Part) → firstFault (rowParts i at values ts ++ later) ≡ orElse (rowsFault point at values ts) (firstFault later)
+  rows-first : (values : List Float) (ts : Terms) (i at : ℕ) (later : List Part) → firstFault (rowsFrom point i at values ts ++ later) ≡ orElse (rowsFault point at values ts) (firstFault later)
   rows-first values none i at later = sym (or-go clear (firstFault later) refl)
   rows-first values (more e ts) i at later =
       ap (orElse (valueFault point values at e)) (rows-first values ts (i + 1) (at + 1 + size e) later)
       ∙ sym (or-assoc (valueFault point values at e) (rowsFault point (at + 1 + size e) values ts) (firstFault later))
 
-  values-are : (M : Model) → valuesFault point M ≡ firstFault (partsOf M)
+  values-are : (M : Model) → valuesFault point M ≡ firstFault (partsOf point M)
   unfolding valuesFault
   values-are M =
       let values = sharedValues point [] (M .shared) in
       let last = part 12 0 (objectiveAt M) values (M .objective) in
       sym (shared-first (M .shared) 0 0 [] _
       ∙ ap (orElse (sharedFault point 0 [] (M .shared))) (rows-first values (M .rows) 0 (rowsAt M) (last ∷ [])
-      ∙ ap (orElse (rowsFault point (rowsAt M) values (M .rows))) (or-none (faultOf last) (value-proper point values (objectiveAt M) (M .objective)))))
+      ∙ ap (orElse (rowsFault point (rowsAt M) values (M .rows))) (or-none (faultOf point last) (value-proper point values (objectiveAt M) (M .objective)))))
 
-  pub values-first : (M : Model) → (Clear (valuesFault point M) → ⊥) → FirstPart (partsOf M) (valuesFault point M)
+  pub values-first : (M : Model) → (Clear (valuesFault point M) → ⊥) → FirstPart point (partsOf point M) (valuesFault point M)
   values-first M c =
       let e = values-are M in
-      rw e (first-part (partsOf M) (λ z. c (rw e z)))
+      rw e (first-part (partsOf point M) (λ z. c (rw e z)))
 
   -- 14 or 19 of a file
   pub part-refused : (columns lentShared lentRows : ℕ) (M : Model) → member (refusal columns point lentShared lentRows (yields M) .number) (SWING ∷ VALUE ∷ []) ≡ true
-      → FirstPart (partsOf M) (refusal columns point lentShared lentRows (yields M))
+      → FirstPart point (partsOf point M) (refusal columns point lentShared lentRows (yields M))
   part-refused columns lentShared lentRows M h =
       let f = refusal columns point lentShared lentRows (yields M) in
       let c : Clear f → ⊥ = other-number (f .number) 0 (SWING ∷ VALUE ∷ []) h refl in
@@ -162,10 +108,6 @@ module _ (point : List Float) where
 -- ---- the places
 
 module _ (ws : List ℕ) where
-  -- the word at a part's place is its beginning word
-  abbrev pub Begins : Part → Type 0
-  Begins p = getD ws (p .at) 0 ≡ word (p .kind) (p .number)
-
   module _ (kind i at k : ℕ) (e : Expr) (ts : Terms) (rest : List ℕ) (p : drop at ws ≡ partWords kind i k (more e ts) ++ rest) where
     begins-here : getD ws at 0 ≡ word kind i
     unfolding partWords
@@ -183,26 +125,26 @@ module _ (ws : List ℕ) where
   after-parts kind (more e ts) i at k rest p = after-parts kind ts (i + 1) (at + 1 + size e) (next k e) rest (begins-next kind i at k e ts rest p)
 
   module _ (point : List Float) where
-    shared-begin : (ts : Terms) (i at k : ℕ) (values : List Float) (rest : List ℕ) → drop at ws ≡ partWords 10 i k ts ++ rest → All Begins (sharedParts point i at values ts)
+    shared-begin : (ts : Terms) (i at k : ℕ) (values : List Float) (rest : List ℕ) → drop at ws ≡ partWords 10 i k ts ++ rest → All (Begins ws) (sharedFrom point i at values ts)
     shared-begin none i at k values rest p = tt
     shared-begin (more e ts) i at k values rest p =
         (begins-here 10 i at k e ts rest p, shared-begin ts (i + 1) (at + 1 + size e) (next k e) (values ++ (value point values e ∷ [])) rest (begins-next 10 i at k e ts rest p))
 
-    rows-begin : (values : List Float) (ts : Terms) (i at k : ℕ) (rest : List ℕ) → drop at ws ≡ partWords 11 i k ts ++ rest → All Begins (rowParts point i at values ts)
+    rows-begin : (values : List Float) (ts : Terms) (i at k : ℕ) (rest : List ℕ) → drop at ws ≡ partWords 11 i k ts ++ rest → All (Begins ws) (rowsFrom point i at values ts)
     rows-begin values none i at k rest p = tt
     rows-begin values (more e ts) i at k rest p =
         (begins-here 11 i at k e ts rest p, rows-begin values ts (i + 1) (at + 1 + size e) (next k e) rest (begins-next 11 i at k e ts rest p))
 
-    parts-begin : (cs : List ℕ) (columns : ℕ) (M : Model) → StandsFor ws cs columns M → All Begins (partsOf point M)
+    parts-begin : (cs : List ℕ) (columns : ℕ) (M : Model) → StandsFor ws cs columns M → All (Begins ws) (partsOf point M)
     unfolding modelWords
     parts-begin cs columns M S =
         let values = sharedValues point [] (M .shared) in
-        let sharedPart = sharedParts point 0 0 [] (M .shared) in
-        let rowPart = rowParts point 0 (rowsAt point M) values (M .rows) in
+        let sharedPart = sharedFrom point 0 0 [] (M .shared) in
+        let rowPart = rowsFrom point 0 (rowsAt M) values (M .rows) in
         let after = after-parts 10 (M .shared) 0 0 0 (partWords 11 0 (atRows M) (M .rows) ++ pastRows M) (S .its-words) in
-        let last = after-parts 11 (M .rows) 0 (rowsAt point M) (atRows M) (pastRows M) after in
-        all-append Begins sharedPart _ (shared-begin (M .shared) 0 0 0 [] _ (S .its-words))
-        (all-append Begins rowPart _ (rows-begin values (M .rows) 0 (rowsAt point M) (atRows M) (pastRows M) after) (getD-here (objectiveAt point M) ws (word 12 0) _ last, tt))
+        let last = after-parts 11 (M .rows) 0 (rowsAt M) (atRows M) (pastRows M) after in
+        all-append (Begins ws) sharedPart _ (shared-begin (M .shared) 0 0 0 [] _ (S .its-words))
+        (all-append (Begins ws) rowPart _ (rows-begin values (M .rows) 0 (rowsAt M) (atRows M) (pastRows M) after) (getD-here (objectiveAt M) ws (word 12 0) _ last, tt))
 
 module _ (ws : List ℕ) (xs : List Float) (columns : ℕ) (point : List Float) (lentShared lentRows : ℕ) (M : Model) (e : reading ws (patterns xs) columns ≡ yields M) where
   -- 14 or 19 is the first part's that has one, and its place is that of a word that begins a shared part, a row or the objective

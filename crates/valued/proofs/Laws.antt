@@ -16,7 +16,8 @@ use Rattle.model_reading.specs.Place.{size}
 use Rattle.model_reading.specs.Reading.{Reading, yields, wrong, reading}
 use Rattle.expression.specs.Value.{inside, value, valuesOf, inRange, patterns}
 use Rattle.lists.specs.Finite.{pointFault}
-use Rattle.row_values.specs.Answer.{valueFault, sharedValues, sharedFault, rowsFault, valuesFault, sizeFault, roomFault, refusal, allShared, allRows, objectiveValue, refusedBy}
+use Rattle.row_values.specs.Answer.{valueFault, sharedValues, sharedFault, rowsFault, valuesFault, sizeFault, roomFault, refusal, refusedBy}
+use Rattle.valued.specs.Outcomes.{FiniteAt}
 
 -- ---- one part
 
@@ -78,12 +79,6 @@ module _ (point : List Float) where
   rows-finite values none at c j l = absurd (omega arith)
   rows-finite values (more e ts) at c zero l = says-none point values at e .0 (or-left (valueFault point values at e) _ c) .1
   rows-finite values (more e ts) at c (suc j) l = rows-finite values ts (at + 1 + size e) (or-right (valueFault point values at e) _ c) j (omega arith)
-
--- what is read has all values finite
-pub record FiniteAt (point : List Float) (r : Reading) : Type 0 where
-  pub shared : AllFinite (allShared point r)
-  pub rows : AllFinite (allRows point r)
-  pub objective : isFinite (objectiveValue point r) ≡ true
 
 read-finite : (columns : ℕ) (point : List Float) (lentShared lentRows : ℕ) (r : Reading) → Clear (refusal columns point lentShared lentRows r) → FiniteAt point r
 unfolding refusal valuesFault

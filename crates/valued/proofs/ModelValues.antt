@@ -1,7 +1,7 @@
 -- The values of a network's model at a point, by the rows of condition 2, and that 14 spares them at accepted angles.
 use mathlib.Core.Path.{_≡_, refl, ap, _∙_}
 use mathlib.Core.List.{List, [], _∷_, _++_, map}
-use Prim.Native.Nat.{ℕ, zero, suc, _+_, _*_, _<_}
+use Prim.Native.Nat.{ℕ, _+_, _*_, _<_}
 use native.Mathlib.Omega.{arith}
 use lib.ListN.{length, getD, List·getD-map, length-map, length-append}
 use lib.Ieee.{Float}

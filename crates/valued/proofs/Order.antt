@@ -10,9 +10,9 @@ use lib.Dec.{eqb}
 use lib.Ieee.{Float, binary64, toBits}
 use borrow.Author.Tests.{eqb-true, eqb-false}
 use Rattle.base.specs.declared.Fault.{Fault}
-use Rattle.base.specs.Fault.{fault, clear, unless, orElse, first, section}
+use Rattle.base.specs.Fault.{fault, clear, unless, orElse, section}
 use Rattle.base.specs.Order.{member, IsFirst}
-use Rattle.base.specs.Refusal.{SIZE, SHORT, POINT, SWING, MODEL, VALUE}
+use Rattle.base.specs.Refusal.{SIZE, SWING, MODEL, VALUE}
 use Rattle.base.proofs.Firsts.{Clear, Spans, spans-unless, spans-or, or-go, or-stop}
 use Rattle.base.proofs.Order.{Gives, AllGive, gives-one, other-number, first-gives, refusal-is-first}
 use Rattle.float.specs.Number.{isFinite}
@@ -24,6 +24,7 @@ use Rattle.model_reading.specs.Reading.{Reading, yields, wrong, reading}
 use Rattle.model_reading.proofs.Reading.{wrong-exactly}
 use Rattle.expression.specs.Value.{value, inRange, patterns}
 use Rattle.row_values.specs.Answer.{valueFault, sharedValues, sharedFault, rowsFault, valuesFault, roomFault, refusalSections, refusal, refusedBy}
+use Rattle.valued.specs.Outcomes.{laterNumbers}
 
 -- ---- each section gives its numbers alone
 
@@ -80,10 +81,6 @@ module _ (columns : ℕ) (point : List Float) (lentShared lentRows : ℕ) where
   refusal-first (yields M) c = refusal-is-first (refusalSections columns point lentShared lentRows (yields M)) (all-give (yields M)) refl c
 
 -- ---- 17 is the finder's, and what passes reading has another number or none
-
--- 2, 12, 13, 14 or 19
-abbrev pub laterNumbers : List ℕ
-laterNumbers = SIZE ∷ SHORT ∷ POINT ∷ SWING ∷ VALUE ∷ []
 
 module _ (columns : ℕ) (point : List Float) (lentShared lentRows : ℕ) where
   pub yields-number : (M : Model) → (Clear (refusal columns point lentShared lentRows (yields M)) → ⊥)

@@ -5,26 +5,24 @@ use mathlib.Core.Bool.{Bool, true, false}
 use Prim.Native.Nat.{ℕ, _+_}
 use native.Mathlib.Omega.{arith}
 use native.Mathlib.Nat.{zero-add}
-use lib.ListN.{length, take, drop, length-append}
+use lib.ListN.{length, length-append}
 use lib.Dec.{eqb}
 use lib.Ieee.{Float}
 use borrow.Author.Tests.{eqb-true, eqb-false}
 use Rattle.base.specs.declared.Fault.{Fault}
-use Rattle.base.specs.Fault.{clear}
-use Rattle.base.specs.Order.{member}
 use Rattle.base.proofs.Firsts.{Clear}
 use Rattle.base.proofs.Left.{left-refused, left-front, left-rest}
-use Rattle.float.specs.Number.{zero64}
 use Rattle.nl.specs.Expr.{Terms, none, more, count}
 use Rattle.nl.specs.File.{Model}
 use Rattle.model_reading.specs.Reading.{Reading, yields, reading}
-use Rattle.expression.specs.Value.{value, valuesOf, patterns}
-use Rattle.row_values.specs.Answer.{sharedValues, refusal, allShared, allRows, refusedBy, rowValues, sharedAfter, rowsAfter}
+use Rattle.expression.specs.Value.{value, patterns}
+use Rattle.row_values.specs.Answer.{sharedValues, refusal, allShared, allRows, refusedBy}
 use Rattle.row_values.proofs.Answers.{length-values, refusal-proper}
-use Rattle.valued.proofs.Laws.{FiniteAt, all-finite}
-use Rattle.valued.proofs.Order.{laterNumbers, yields-number}
+use Rattle.valued.specs.Outcomes.{Outcome, all-values, refused}
+use Rattle.valued.proofs.Laws.{all-finite}
+use Rattle.valued.proofs.Order.{yields-number}
 
-length-shared : (point : List Float) (ts : Terms) (values : List Float) → length (sharedValues point values ts) ≡ length values + count ts
+pub length-shared : (point : List Float) (ts : Terms) (values : List Float) → length (sharedValues point values ts) ≡ length values + count ts
 length-shared point none values = omega arith
 length-shared point (more e ts) values =
     length-shared point ts (values ++ (value point values e ∷ [])) ∙ omega (arith, length-append values (value point values e ∷ []))
@@ -36,36 +34,13 @@ module _ (ws : List ℕ) (xs : List Float) (columns : ℕ) (point shared rows : 
   abbrev values : List Float
   values = sharedValues point [] (M .shared)
 
-  -- every shared part's and row's value stands in front of its list and the objective's in the answer, all finite, and the rest of the lists is as it was
-  pub record AllValues : Type 0 where
-    pub fault : rowValues ws xs columns point (length shared) (length rows) .fault ≡ clear
-    pub shared-count : rowValues ws xs columns point (length shared) (length rows) .shared ≡ count (M .shared)
-    pub rows-count : rowValues ws xs columns point (length shared) (length rows) .rows ≡ count (M .rows)
-    pub objective : rowValues ws xs columns point (length shared) (length rows) .objective ≡ value point values (M .objective)
-    pub shared-are : take (count (M .shared)) (sharedAfter ws xs columns point shared rows) ≡ values
-    pub rows-are : take (count (M .rows)) (rowsAfter ws xs columns point shared rows) ≡ valuesOf point values (M .rows)
-    pub shared-rest : drop (count (M .shared)) (sharedAfter ws xs columns point shared rows) ≡ drop (count (M .shared)) shared
-    pub rows-rest : drop (count (M .rows)) (rowsAfter ws xs columns point shared rows) ≡ drop (count (M .rows)) rows
-    pub finite : FiniteAt point (yields M)
-
-  -- 2, 12, 13, 14 or 19, "all else 0", and both lists are as they were
-  pub record Refused : Type 0 where
-    pub number : member (F .number) laterNumbers ≡ true
-    pub answer : rowValues ws xs columns point (length shared) (length rows) ≡ record { fault = F; objective = zero64; shared = 0; rows = 0 }
-    pub same-shared : sharedAfter ws xs columns point shared rows ≡ shared
-    pub same-rows : rowsAfter ws xs columns point shared rows ≡ rows
-
-  pub data Outcome : Type 0 where
-    all-values : AllValues → Outcome
-    refused : Refused → Outcome
-
-  pub all-or-refused : reading ws (patterns xs) columns ≡ yields M → Outcome
+  pub all-or-refused : reading ws (patterns xs) columns ≡ yields M → Outcome ws xs columns point shared rows M
   all-or-refused e = go (eqb (F .number) 0) refl
     where
       r : Reading
       r = reading ws (patterns xs) columns
 
-      go : (b : Bool) → eqb (F .number) 0 ≡ b → Outcome
+      go : (b : Bool) → eqb (F .number) 0 ≡ b → Outcome ws xs columns point shared rows M
       go true t =
           let c : Clear F = eqb-true _ 0 t in
           let n : count (M .shared) ≡ length (allShared point r) = sym (ap (λ x. length (allShared point x)) e ∙ length-shared point (M .shared) [] ∙ zero-add (count (M .shared))) in

@@ -18,7 +18,9 @@ use Rattle.expression.specs.Value.{step, applied, inside, value}
 use Rattle.row_values.specs.Answer.{sharedValues}
 use Rattle.acopf.specs.Build.{square, multiply, cosineOf, scaled, sum, terms}
 use Rattle.acopf.specs.Parts.{voltageProduct, angle, angleDifference, branchParts, sharedParts}
+use Rattle.acopf.proofs.Counts.{count-terms}
 use Rattle.valued.specs.Spared.{AnglesRight, SharedSpared}
+use Rattle.valued.proofs.Outcomes.{length-shared}
 use Rattle.valued.proofs.Difference.{difference-inside}
 use Rattle.valued.proofs.InRange.{InRange, in-column, in-shared, in-none, in-more, in-over, in-one, in-argument, in-two, in-scaled}
 
@@ -36,10 +38,7 @@ next h k = record { its = (h .its, k .its) }
 
 module _ (point : List Float) where
   pub length-values : (values : List Float) (es : List Expr) → length (sharedValues point values (terms es)) ≡ length values + length es
-  length-values values [] = omega arith
-  length-values values (e ∷ es) =
-      let v = value point values e ∷ [] in
-      omega (arith, length-values (values ++ v) es, length-append values v)
+  length-values values es = length-shared point (terms es) values ∙ ap (λ n. length values + n) (count-terms es)
 
   spared-append : (values : List Float) (es fs : List Expr) → SharedSpared point values (terms es)
       → SharedSpared point (sharedValues point values (terms es)) (terms fs) → SharedSpared point values (terms (es ++ fs))

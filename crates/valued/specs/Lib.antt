@@ -1,2 +1,4 @@
+pub mod FileParts
+pub mod Outcomes
 pub mod File
 pub mod Spared
