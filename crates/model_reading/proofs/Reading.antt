@@ -23,7 +23,7 @@ use Rattle.nl.proofs.Unique.{other-shared, other-objective}
 use Rattle.model_reading.specs.declared.FileLayout.{FileLayout}
 use Rattle.model_reading.specs.declared.FileLayout.the-variants.{Passed, Failed}
 use Rattle.model_reading.specs.Parse.{part}
-use Rattle.model_reading.specs.Place.{size, placeOf}
+use Rattle.model_reading.specs.Place.{size, placeOf, rowsAt, objectiveAt}
 use Rattle.model_reading.specs.Reading.{sharedLimit, layoutAfter, fileLayout, modelAt, readAs, yields, wrong, reading}
 use Rattle.model_reading.proofs.Standing.{size-any, part-words, Standing, parts-stand, parse-parts}
 
@@ -65,13 +65,6 @@ mark-place r (more e ts) i at k v h l = go (mark-place r ts (i + 1) (at + 1 + le
 
 -- ---- a file that stands for M
 
--- the place of the first row's beginning word, and of the objective's
-abbrev pub rowsPlace : Model → ℕ
-rowsPlace M = placeOf (count (M .shared)) 0 (M .shared)
-
-abbrev pub objectivePlace : Model → ℕ
-objectivePlace M = placeOf (count (M .rows)) (rowsPlace M) (M .rows)
-
 -- what the layout has for the first shared part too many: its place where there is one
 abbrev pub extraPlace : Model → ℕ
 extraPlace M = markIn startOf sharedLimit 0 0 0 (M .shared) 0 - 1
@@ -80,10 +73,10 @@ pub extra-place : (M : Model) → sharedLimit < count (M .shared) → extraPlace
 extra-place M h = omega (arith, mark-place sharedLimit (M .shared) 0 0 0 0 (omega arith) (omega arith))
 
 module _ (ws cs : List ℕ) (columns : ℕ) (M : Model) (S : StandsFor ws cs columns M) where
-  from : rowsFrom M ≡ rowsPlace M
+  from : rowsFrom M ≡ rowsAt M
   from = sym (zero-add (rowsFrom M)) ∙ end-place 10 (M .shared) 0 0 0
 
-  to : rowsFrom M + length (partWords 11 0 (atRows M) (M .rows)) ≡ objectivePlace M
+  to : rowsFrom M + length (partWords 11 0 (atRows M) (M .rows)) ≡ objectiveAt M
   to = end-place 11 (M .rows) 0 (rowsFrom M) (atRows M) ∙ ap (λ x. placeOf (count (M .rows)) x (M .rows)) from
 
   objective-words : drop (rowsFrom M + length (partWords 11 0 (atRows M) (M .rows))) ws ≡ pastRows M
@@ -92,7 +85,7 @@ module _ (ws cs : List ℕ) (columns : ℕ) (M : Model) (S : StandsFor ws cs col
   objective-values : drop (atObjective M) cs ≡ constants (M .objective) ++ []
   objective-values = drop-past (atRows M) cs (constantsOf (M .rows)) _ (rows-values ws cs columns M S) ∙ sym (append-nil _)
 
-  pub layout-is : fileLayout ws (length cs) columns ≡ Passed (count (M .shared)) (count (M .rows)) (rowsPlace M) (objectivePlace M) (extraPlace M)
+  pub layout-is : fileLayout ws (length cs) columns ≡ Passed (count (M .shared)) (count (M .rows)) (rowsAt M) (objectiveAt M) (extraPlace M)
   unfolding modelWords modelConstants fileLayout layoutAfter
   layout-is =
       let sh = M .shared in
@@ -113,35 +106,35 @@ module _ (ws cs : List ℕ) (columns : ℕ) (M : Model) (S : StandsFor ws cs col
   unfolding modelWords modelConstants
   shared-stands = parts-stand ws cs columns (λ i. i) 10 (M .shared) 0 0 0 _ _ (S .shared-ruled) (S .its-words) (S .its-constants)
 
-  rows-stands : Standing ws cs (rowsPlace M) (M .rows)
+  rows-stands : Standing ws cs (rowsAt M) (M .rows)
   rows-stands =
       subst (λ x. Standing ws cs x (M .rows)) from
       (parts-stand ws cs columns (λ i. count (M .shared)) 11 (M .rows) 0 (rowsFrom M) (atRows M) _ _ (S .rows-ruled) (rows-words ws cs columns M S) (rows-values ws cs columns M S))
 
-  objective-stands : part ws cs (objectivePlace M) .expr ≡ M .objective
+  objective-stands : part ws cs (objectiveAt M) .expr ≡ M .objective
   objective-stands =
       ap (λ x. part ws cs x .expr) (sym to)
       ∙ ap (λ x. x .expr) (part-words ws cs (M .objective) 12 0 _ (atObjective M) _ _ (S .objective-ruled .loads) (S .objective-ruled .deep) objective-words objective-values)
 
-  model-is : modelAt ws cs (count (M .shared)) (count (M .rows)) (rowsPlace M) (objectivePlace M) ≡ M
+  model-is : modelAt ws cs (count (M .shared)) (count (M .rows)) (rowsAt M) (objectiveAt M) ≡ M
   model-is =
       let a = ap (λ x. x .terms) (parse-parts ws cs (M .shared) 0 shared-stands) in
-      let b = ap (λ x. x .terms) (parse-parts ws cs (M .rows) (rowsPlace M) rows-stands) in
+      let b = ap (λ x. x .terms) (parse-parts ws cs (M .rows) (rowsAt M) rows-stands) in
       λ i. record { shared = a i; rows = b i; objective = objective-stands i }
 
   yields-it : reading ws cs columns ≡ yields M
   unfolding reading
   yields-it = rw layout-is (ap yields model-is)
 
-  reads-as : ParsedAs ws cs columns (count (M .shared)) (count (M .rows)) (rowsPlace M) (objectivePlace M) (extraPlace M)
+  reads-as : ParsedAs ws cs columns (count (M .shared)) (count (M .rows)) (rowsAt M) (objectiveAt M) (extraPlace M)
   reads-as = record {
     stands = subst (StandsFor ws cs columns) (sym model-is) S;
     shared-count = ap (λ N. count (N .shared)) model-is;
     rows-count = ap (λ N. count (N .rows)) model-is;
     shared-stand = subst (λ N. Standing ws cs 0 (N .shared)) (sym model-is) shared-stands;
-    rows-stand = subst (λ N. Standing ws cs (rowsPlace M) (N .rows)) (sym model-is) rows-stands;
+    rows-stand = subst (λ N. Standing ws cs (rowsAt M) (N .rows)) (sym model-is) rows-stands;
     rows-at = ap (λ N. placeOf (count (M .shared)) 0 (N .shared)) (sym model-is);
-    objective-at = ap (λ N. placeOf (count (M .rows)) (rowsPlace M) (N .rows)) (sym model-is);
+    objective-at = ap (λ N. placeOf (count (M .rows)) (rowsAt M) (N .rows)) (sym model-is);
     extra-at = λ h. extra-place M h ∙ ap (λ N. placeOf sharedLimit 0 (N .shared)) (sym model-is);
   }
 

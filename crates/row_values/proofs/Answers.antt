@@ -20,7 +20,7 @@ use Rattle.nl.specs.File.{Model}
 use Rattle.model_reading.specs.declared.Counts.{Counts}
 use Rattle.model_reading.specs.declared.FileLayout.the-variants.{Passed, Failed}
 use Rattle.model_reading.specs.Parse.{Parsed, parseMany, part}
-use Rattle.model_reading.specs.Place.{size, placeOf}
+use Rattle.model_reading.specs.Place.{size, placeOf, rowsAt, objectiveAt}
 use Rattle.model_reading.specs.Reading.{sharedLimit, fileLayout, modelAt, Reading, yields, wrong, reading}
 use Rattle.model_reading.specs.Counts.{countsOf, rowCounts}
 use Rattle.model_reading.proofs.Standing.{Standing}
@@ -72,13 +72,10 @@ module _ (ws : List ℕ) (xs point : List Float) where
     abbrev values : List Float
     values = sharedValues point [] (M .shared)
 
-    abbrev atRows : ℕ
-    atRows = placeOf (count (M .shared)) 0 (M .shared)
-
-    rows-place : at ≡ atRows
+    rows-place : at ≡ rowsAt M
     rows-place = R .rows-at ∙ ap (λ k. placeOf k 0 (M .shared)) (sym (R .shared-count))
 
-    objective-place : objective ≡ placeOf (count (M .rows)) atRows (M .rows)
+    objective-place : objective ≡ objectiveAt M
     objective-place = R .objective-at ∙ ap₂ (λ k p. placeOf k p (M .rows)) (sym (R .rows-count)) rows-place
 
     faults-are : orElse (sharedPass ws xs point n 0 []) (orElse (rowsPass ws xs point values rows at) (partFault ws xs point values objective)) ≡ valuesFault point M

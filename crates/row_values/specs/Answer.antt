@@ -13,7 +13,7 @@ use Rattle.nl.specs.Expr.{Expr, Terms, none, more, count}
 use Rattle.nl.specs.File.{Model}
 use Rattle.lists.specs.Finite.{pointFault}
 use Rattle.model_reading.specs.Reading.{sharedLimit, Reading, yields, wrong, reading}
-use Rattle.model_reading.specs.Place.{size, placeOf}
+use Rattle.model_reading.specs.Place.{size, placeOf, rowsAt, objectiveAt}
 use Rattle.expression.specs.Value.{value, valuesOf, inRange, patterns}
 use Rattle.row_values.specs.declared.RowValues.{RowValues}
 
@@ -43,10 +43,8 @@ module _ (point : List Float) where
   unfoldable pub valuesFault : Model → Fault
   valuesFault M =
       let values = sharedValues [] (M .shared) in
-      let rowsAt = placeOf (count (M .shared)) 0 (M .shared) in
-      let objectiveAt = placeOf (count (M .rows)) rowsAt (M .rows) in
       orElse (sharedFault 0 [] (M .shared))
-      (orElse (rowsFault rowsAt values (M .rows)) (valueFault point values objectiveAt (M .objective)))
+      (orElse (rowsFault (rowsAt M) values (M .rows)) (valueFault point values (objectiveAt M) (M .objective)))
 
 -- "more than 4,352 shared parts are refused as size (place: the first beginning word too many)"
 abbrev pub sizeFault : Model → Fault

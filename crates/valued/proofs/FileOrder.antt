@@ -19,14 +19,14 @@ use Rattle.nl.specs.Expr.{Expr, Terms, none, more, count, next, words}
 use Rattle.nl.specs.File.{Model, partWords, atRows, modelWords, StandsFor}
 use Rattle.nl.proofs.Build.{drop-past, getD-here}
 use Rattle.nl.proofs.Finds.{pastRows}
-use Rattle.model_reading.specs.Place.{size, placeOf}
+use Rattle.model_reading.specs.Place.{size, placeOf, rowsAt, objectiveAt}
 use Rattle.model_reading.specs.Reading.{yields, reading}
 use Rattle.model_reading.proofs.Standing.{size-any}
 use Rattle.model_reading.proofs.Reading.{yields-exactly}
 use Rattle.expression.specs.Value.{value, patterns}
 use Rattle.row_values.specs.Answer.{valueFault, sharedValues, sharedFault, rowsFault, valuesFault, refusal, refusedBy}
 use Rattle.row_values.proofs.Answers.{value-proper}
-use Rattle.valued.specs.FileParts.{Part, part, All, rowsAt, objectiveAt, sharedFrom, rowsFrom, partsOf, faultOf, FirstPart, Begins}
+use Rattle.valued.specs.FileParts.{Part, part, All, sharedPartsFrom, rowPartsFrom, partsOf, faultOf, FirstPart, Begins}
 use Rattle.valued.proofs.Laws.{says-none}
 use Rattle.valued.proofs.Order.{refusal-first}
 
@@ -70,13 +70,13 @@ module _ (point : List Float) where
         answer = or-stop (faultOf point p) (firstFault ps) (eqb-false _ 0 e);
       }
 
-  shared-first : (ts : Terms) (i at : ℕ) (values : List Float) (later : List Part) → firstFault (sharedFrom point i at values ts ++ later) ≡ orElse (sharedFault point at values ts) (firstFault later)
+  shared-first : (ts : Terms) (i at : ℕ) (values : List Float) (later : List Part) → firstFault (sharedPartsFrom point i at values ts ++ later) ≡ orElse (sharedFault point at values ts) (firstFault later)
   shared-first none i at values later = sym (or-go clear (firstFault later) refl)
   shared-first (more e ts) i at values later =
       ap (orElse (valueFault point values at e)) (shared-first ts (i + 1) (at + 1 + size e) (values ++ (value point values e ∷ [])) later)
       ∙ sym (or-assoc (valueFault point values at e) (sharedFault point (at + 1 + size e) (values ++ (value point values e ∷ [])) ts) (firstFault later))
 
-  rows-first : (values : List Float) (ts : Terms) (i at : ℕ) (later : List Part) → firstFault (rowsFrom point i at values ts ++ later) ≡ orElse (rowsFault point at values ts) (firstFault later)
+  rows-first : (values : List Float) (ts : Terms) (i at : ℕ) (later : List Part) → firstFault (rowPartsFrom point i at values ts ++ later) ≡ orElse (rowsFault point at values ts) (firstFault later)
   rows-first values none i at later = sym (or-go clear (firstFault later) refl)
   rows-first values (more e ts) i at later =
       ap (orElse (valueFault point values at e)) (rows-first values ts (i + 1) (at + 1 + size e) later)
@@ -125,12 +125,12 @@ module _ (ws : List ℕ) where
   after-parts kind (more e ts) i at k rest p = after-parts kind ts (i + 1) (at + 1 + size e) (next k e) rest (begins-next kind i at k e ts rest p)
 
   module _ (point : List Float) where
-    shared-begin : (ts : Terms) (i at k : ℕ) (values : List Float) (rest : List ℕ) → drop at ws ≡ partWords 10 i k ts ++ rest → All (Begins ws) (sharedFrom point i at values ts)
+    shared-begin : (ts : Terms) (i at k : ℕ) (values : List Float) (rest : List ℕ) → drop at ws ≡ partWords 10 i k ts ++ rest → All (Begins ws) (sharedPartsFrom point i at values ts)
     shared-begin none i at k values rest p = tt
     shared-begin (more e ts) i at k values rest p =
         (begins-here 10 i at k e ts rest p, shared-begin ts (i + 1) (at + 1 + size e) (next k e) (values ++ (value point values e ∷ [])) rest (begins-next 10 i at k e ts rest p))
 
-    rows-begin : (values : List Float) (ts : Terms) (i at k : ℕ) (rest : List ℕ) → drop at ws ≡ partWords 11 i k ts ++ rest → All (Begins ws) (rowsFrom point i at values ts)
+    rows-begin : (values : List Float) (ts : Terms) (i at k : ℕ) (rest : List ℕ) → drop at ws ≡ partWords 11 i k ts ++ rest → All (Begins ws) (rowPartsFrom point i at values ts)
     rows-begin values none i at k rest p = tt
     rows-begin values (more e ts) i at k rest p =
         (begins-here 11 i at k e ts rest p, rows-begin values ts (i + 1) (at + 1 + size e) (next k e) rest (begins-next 11 i at k e ts rest p))
@@ -139,8 +139,8 @@ module _ (ws : List ℕ) where
     unfolding modelWords
     parts-begin cs columns M S =
         let values = sharedValues point [] (M .shared) in
-        let sharedPart = sharedFrom point 0 0 [] (M .shared) in
-        let rowPart = rowsFrom point 0 (rowsAt M) values (M .rows) in
+        let sharedPart = sharedPartsFrom point 0 0 [] (M .shared) in
+        let rowPart = rowPartsFrom point 0 (rowsAt M) values (M .rows) in
         let after = after-parts 10 (M .shared) 0 0 0 (partWords 11 0 (atRows M) (M .rows) ++ pastRows M) (S .its-words) in
         let last = after-parts 11 (M .rows) 0 (rowsAt M) (atRows M) (pastRows M) after in
         all-append (Begins ws) sharedPart _ (shared-begin (M .shared) 0 0 0 [] _ (S .its-words))

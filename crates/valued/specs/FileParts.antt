@@ -8,9 +8,9 @@ use lib.Ieee.{Float}
 use Rattle.base.specs.declared.Fault.{Fault}
 use Rattle.base.specs.Word.{word}
 use Rattle.float.specs.Number.{isFinite}
-use Rattle.nl.specs.Expr.{Expr, Terms, none, more, count}
+use Rattle.nl.specs.Expr.{Expr, Terms, none, more}
 use Rattle.nl.specs.File.{Model}
-use Rattle.model_reading.specs.Place.{size, placeOf}
+use Rattle.model_reading.specs.Place.{size, rowsAt, objectiveAt}
 use Rattle.expression.specs.Value.{value, inRange}
 use Rattle.row_values.specs.Answer.{valueFault, sharedValues}
 
@@ -29,28 +29,22 @@ abbrev pub All : (Part → Type 0) → List Part → Type 0
 All P [] = Unit {0}
 All P (p ∷ ps) = P p × All P ps
 
-abbrev pub rowsAt : Model → ℕ
-rowsAt M = placeOf (count (M .shared)) 0 (M .shared)
-
-abbrev pub objectiveAt : Model → ℕ
-objectiveAt M = placeOf (count (M .rows)) (rowsAt M) (M .rows)
-
 module _ (point : List Float) where
-  abbrev pub sharedFrom : ℕ → ℕ → List Float → Terms → List Part
-  sharedFrom i at values none = []
-  sharedFrom i at values (more e ts) =
-      part 10 i at values e ∷ sharedFrom (i + 1) (at + 1 + size e) (values ++ (value point values e ∷ [])) ts
+  abbrev pub sharedPartsFrom : ℕ → ℕ → List Float → Terms → List Part
+  sharedPartsFrom i at values none = []
+  sharedPartsFrom i at values (more e ts) =
+      part 10 i at values e ∷ sharedPartsFrom (i + 1) (at + 1 + size e) (values ++ (value point values e ∷ [])) ts
 
-  abbrev pub rowsFrom : ℕ → ℕ → List Float → Terms → List Part
-  rowsFrom i at values none = []
-  rowsFrom i at values (more e ts) = part 11 i at values e ∷ rowsFrom (i + 1) (at + 1 + size e) values ts
+  abbrev pub rowPartsFrom : ℕ → ℕ → List Float → Terms → List Part
+  rowPartsFrom i at values none = []
+  rowPartsFrom i at values (more e ts) = part 11 i at values e ∷ rowPartsFrom (i + 1) (at + 1 + size e) values ts
 
   -- all parts of a model, in file order
   abbrev pub partsOf : Model → List Part
   partsOf M =
       let values = sharedValues point [] (M .shared) in
-      sharedFrom 0 0 [] (M .shared)
-      ++ (rowsFrom 0 (rowsAt M) values (M .rows) ++ (part 12 0 (objectiveAt M) values (M .objective) ∷ []))
+      sharedPartsFrom 0 0 [] (M .shared)
+      ++ (rowPartsFrom 0 (rowsAt M) values (M .rows) ++ (part 12 0 (objectiveAt M) values (M .objective) ∷ []))
 
   abbrev pub faultOf : Part → Fault
   faultOf p = valueFault point (p .named) (p .at) (p .expr)
