@@ -17,7 +17,7 @@ N = 10000
 SEED = 1998
 
 # the tests that the gate runs after rt ci
-TESTS = tests/gate-paths tests/boundary/run tests/depot/run
+TESTS = tests/gate-paths tests/limit tests/boundary/run tests/depot/run
 
 CASE ?= depot_m
 # the archives for C

@@ -58,6 +58,22 @@ fn more_buses_than_the_limit() {
     assert_eq!(check(&words, &[], &[], 0.0), refused(Kind::Size, 257));
 }
 
+/// Document 02 (b): nine points a curve, in five bits of a generator's word.
+#[test]
+fn more_points_than_the_limit() {
+    for header in [0x10000000, 0x10000001] {
+        for points in 0..32 {
+            let answer = match points {
+                1 => refused(Kind::Words, 3),
+                0..=9 => refused(Kind::Count, 26 + 2 * points),
+                _ => refused(Kind::Size, 3),
+            };
+            let words = [header, 0x20000000, 0x30000000, 0x30000000 | points << 13];
+            assert_eq!(check(&words, &[], &[], 0.0), answer, "{points} points");
+        }
+    }
+}
+
 /// Two buses, and between them a branch that only has shunts at its ends: each flow is what its own end draws.
 #[test]
 fn outputs_by_bus_and_branch() {

@@ -17,7 +17,7 @@ import struct
 import sys
 
 # What the program has room for: words, constants, numbers of the point, shared values, row values.
-ROOM = [12544, 64, 64, 4416, 6208]
+ROOM = [8768, 64, 64, 4416, 4416]
 DATA = 65536
 # A middle is worth its while from here on.
 LEAST = 64

@@ -54,11 +54,15 @@ module _ (ws : List ℕ) (xs : List Float) where
         objective = objectiveConstant ws xs;
       }
 
+  -- the answer with this refusal, or with none
+  abbrev pub answered : Fault → Compiled
+  answered f = cond (eqb (f .number) 0) accepted (refused f)
+
   -- the answer, where the seven lists have the lengths `lent`
   unfoldable pub compiled : List ℕ → Compiled
   compiled lent =
       let f = compileFault lent in
-      cond (eqb (f .number) 0) accepted (refused f)
+      answered f
 
   -- the answer where each list is exactly as long as its result: a host sizes its lists by it
   unfoldable pub sized : Compiled

@@ -5,6 +5,7 @@ use Prim.Native.Nat.{ℕ, zero, suc, _+_, _/_, _%_}
 use lib.ListN.{length, getD, drop, replicate}
 use lib.Dec.{eqb, leb, ltb}
 use lib.Ieee.{Float}
+use Rattle.base.specs.declared.Fault.{Fault}
 use Rattle.base.specs.Loop.{each}
 use Rattle.acopf.specs.Model.{fileWords}
 use Rattle.compile.specs.Compile.{compiled}
@@ -45,11 +46,14 @@ refusedLine number place =
 abbrev pub lent : List ℕ
 lent = replicate 7 512
 
--- what is printed for a network: the model words, or the refusal
+-- what is printed for a network with this refusal, or with none: the model words, or the refusal
+abbrev pub answerText : List ℕ → List Float → Fault → List ℕ
+answerText ws xs f = cond (eqb (f .number) 0) (hexLines (fileWords ws xs)) (refusedLine (f .number) (f .place))
+
 unfoldable pub networkText : List ℕ → List Float → List ℕ
 networkText ws xs =
-    let fault = compiled ws xs lent .fault in
-    cond (eqb (fault .number) 0) (hexLines (fileWords ws xs)) (refusedLine (fault .number) (fault .place))
+    let f = compiled ws xs lent .fault in
+    answerText ws xs f
 
 -- what is printed for the bytes of standard input
 unfoldable pub output : List ℕ → List ℕ

@@ -96,7 +96,7 @@ module _ (ws : List ℕ) (xs : List Float) where
   balance-most false i =
       balance-row i (neg (pD ws xs i)) (neg (gS ws xs i)) (pgColumn ws) (λ b. buses ws + 8 * b + 4) (λ b. buses ws + 8 * b + 6)
 
-  -- a curve has at most 31 segments
+  -- by the five bits of its points a curve has at most 31 segments
   curve-most : (g : ℕ) → length (curveTokens ws xs g) ≤ 248
   unfolding curveTokens
   curve-most g =

@@ -21,6 +21,7 @@ ghost use Prim.Native.Nat.{ℕ, _+_, _*_, _<_, _≤_};
 ghost use lib.ListN.{length};
 ghost use Rattle.base.specs.Loop.{each};
 ghost use Rattle.writer.specs.contracts.Tokens.{Written, Room, partTokens};
+ghost use Rattle.network.specs.Limits.{mostPoints};
 ghost use Rattle.network.specs.Layout.{Laid};
 ghost use Rattle.emit.specs.contracts.Rows.{segmentOf, segmentTokens, curveTokens};
 
@@ -72,7 +73,7 @@ fn segment_rows(
     writer: Writer,
 ) -> Writer
     requires { ⌜ ((s : ℕ) → s < count → at + 2 * s + 4 ≤ length (now numbers))
-        × (count ≤ 31) × (epigraph < 4096) × (pg < 4096)
+        × (count ≤ mostPoints) × (epigraph < 4096) × (pg < 4096)
         × Room (now file) (now constants) writer (each count (segmentTokens (now numbers) at epigraph pg)) ⌝ }
     ensures { λ r. ⌜ Written (now (file .entry)) (now (constants .entry)) writer
         (each count (segmentTokens (now (numbers .entry)) at epigraph pg))

@@ -24,6 +24,7 @@ ghost use Rattle.base.specs.Fault.{fault, unless, orElse};
 ghost use Rattle.base.specs.Refusal.{FACTOR};
 ghost use Rattle.float.specs.Number.{isFinite};
 ghost use Rattle.tables.specs.Fault.{faultTables};
+ghost use Rattle.network.specs.Limits.{mostPoints};
 ghost use Rattle.network.specs.Layout.{Laid};
 ghost use Rattle.piecewise_cost.specs.Curve.{slope, intercept};
 ghost use Rattle.acopf.specs.Factor.{faultFactor};
@@ -90,7 +91,7 @@ fn segment_fault(numbers: &[f64], at: usize, segment: usize, place: usize) -> Fa
 
 // A curve's first `count` segments.
 fn segments_fault(numbers: &[f64], at: usize, count: usize, place: usize) -> Fault
-    requires { ⌜ ((s : ℕ) → s < count → at + 2 * s + 4 ≤ length (now numbers)) × (count ≤ 31) × (place ≤ 0x8000) ⌝ }
+    requires { ⌜ ((s : ℕ) → s < count → at + 2 * s + 4 ≤ length (now numbers)) × (count ≤ mostPoints) × (place ≤ 0x4000) ⌝ }
     ensures { λ r. ⌜ r ≡ segmentsFault (now (numbers .entry)) at count place ⌝ }
 {
     let mut s = 0usize;
@@ -139,7 +140,7 @@ fn epigraph_fault(curved: bool, start: f64, place: usize) -> Fault
 
 // The epigraph starts of all generators, where the first column's start has the place `start`.
 fn epigraphs_factor(words: &[u32], numbers: &[f64], layout: Layout, start: usize) -> Fault
-    requires { ⌜ (Laid (now words) (now numbers) layout) × (start ≤ 0x8000) ⌝ }
+    requires { ⌜ (Laid (now words) (now numbers) layout) × (start ≤ 0x4000) ⌝ }
     ensures { λ r. ⌜ r ≡ epigraphsFactor (now (words .entry)) (now (numbers .entry)) start ⌝ }
 {
     let mut place = start + 2 * layout.buses + 2 * layout.generators;
@@ -159,7 +160,7 @@ fn epigraphs_factor(words: &[u32], numbers: &[f64], layout: Layout, start: usize
 
 // The objective constant, whose place is the number of constants, then the starts.
 fn later_factor(words: &[u32], numbers: &[f64], layout: Layout, count: usize) -> Fault
-    requires { ⌜ (Laid (now words) (now numbers) layout) × (count < 0x8000) ⌝ }
+    requires { ⌜ (Laid (now words) (now numbers) layout) × (count < 0x4000) ⌝ }
     ensures { λ r. ⌜ r ≡ orElse (nonFinite (objectiveConstant (now (words .entry)) (now (numbers .entry))) count)
         (epigraphsFactor (now (words .entry)) (now (numbers .entry)) (count + 1)) ⌝ }
 {

@@ -26,15 +26,20 @@ module _ (ws : List ℕ) where
   unfoldable pub faultWords : Fault
   faultWords = cond (eqb (length ws) 0) (fault WORDS 0) (first (length ws) (λ i. unless (wordRight i) (fault WORDS i)))
 
-  -- 2 size: 1-256 buses, 256 generators, 512 branches, 256 references, 16 points a curve; the word passing the limit
-  unfoldable pub faultSize : Fault
-  faultSize =
+  -- 2 size, with at most `most` points a curve: 1-256 buses, 256 generators, 512 branches, 256 references, points a curve; the word
+  -- passing the limit
+  abbrev pub faultSizeAt : ℕ → Fault
+  faultSizeAt most =
       orElse (unless (leb 1 (buses ws)) (fault SIZE 0))
       (orElse (unless (leb (buses ws) mostBuses) (fault SIZE (busPlace ws mostBuses)))
       (orElse (unless (leb (generators ws) mostGenerators) (fault SIZE (generatorPlace ws mostGenerators)))
       (orElse (unless (leb (branches ws) mostBranches) (fault SIZE (branchPlace ws mostBranches)))
       (orElse (unless (leb (references ws) mostReferences) (fault SIZE (referencePlace ws mostReferences)))
-      (first (generators ws) (λ g. unless (leb (points ws g) mostPoints) (fault SIZE (generatorPlace ws g))))))))
+      (first (generators ws) (λ g. unless (leb (points ws g) most) (fault SIZE (generatorPlace ws g))))))))
+
+  -- "Ten points are now refused as size": no other definition of an answer has the limit
+  unfoldable pub faultSize : Fault
+  faultSize = faultSizeAt mostPoints
 
   -- 3 count: the needed length, of a list of `count` numbers
   abbrev pub countFault : ℕ → Fault

@@ -14,7 +14,7 @@ pointNumbers = 2
 abbrev pub branchNumbers : ℕ
 branchNumbers = 11
 
--- "1-256 buses, 256 generators, 512 branches, 256 references, 16 points a curve"
+-- "1-256 buses, 256 generators, 512 branches, 256 references"
 abbrev pub mostBuses : ℕ
 mostBuses = 256
 
@@ -27,9 +27,10 @@ mostBranches = 512
 abbrev pub mostReferences : ℕ
 mostReferences = 256
 
+-- points a curve; document 02 (b): "Nine becomes the limit in place of 16"
 abbrev pub mostPoints : ℕ
-mostPoints = 16
+mostPoints = 9
 
--- so no list of numbers is longer than 18,176
+-- so no list of numbers is longer than 14,592
 abbrev pub mostNumbers : ℕ
 mostNumbers = busNumbers * mostBuses + (generatorNumbers + pointNumbers * mostPoints) * mostGenerators + branchNumbers * mostBranches

@@ -29,7 +29,7 @@ pub const MOST_BRANCHES: usize = 512;
 
 pub const MOST_REFERENCES: usize = 256;
 
-pub const MOST_POINTS: usize = 16;
+pub const MOST_POINTS: usize = 9;
 
 // The counts, the place of the first word and of the first number of each kind (the buses' words start at 1, their numbers at 0), and the
 // header's flag.

@@ -20,7 +20,7 @@ ghost use Rattle.network.specs.Network.{buses, generators, branches, ref
 ghost use Rattle.network.specs.Fault.{faultWords, faultSize, countFault};
 ghost use Rattle.network.specs.Layout.{LaidWords};
 
-// The first of k generators whose curve has more than 16 points.
+// The first of k generators whose curve has more than nine points.
 fn points_fault(words: &[u32], n: usize, k: usize) -> Fault
     requires { ⌜ (n ≡ buses (now words)) × (1 + n + k ≤ length (now words)) ⌝ }
     ensures { λ r. ⌜ r ≡ first k (λ g. unless (leb (points (now (words .entry)) g) mostPoints)

@@ -1,17 +1,22 @@
 // PiecewiseCost: a generator's curve by its segments, each a slope and an intercept. Callers use curve_value, slope_of and
 // intercept_of, and none names a table.
+use network::MOST_POINTS;
 ghost use mathlib.Core.Path.{_≡_};
 ghost use mathlib.Core.List.{List};
-ghost use Prim.Native.Nat.{ℕ, _+_, _-_, _*_, _≤_};
+ghost use Prim.Native.Nat.{ℕ, _+_, _-_, _*_, _≤_, _<_};
 ghost use lib.ListN.{length};
 ghost use lib.Ieee.{Float};
+ghost use Rattle.network.specs.Limits.{mostPoints};
 ghost use Rattle.piecewise_cost.specs.Curve.{slope, intercept, evaluate};
 ghost use Rattle.piecewise_cost.specs.contracts.Prepared.{Prepared};
 
+// A curve has a segment less than points.
+const MOST_SEGMENTS: usize = MOST_POINTS - 1;
+
 // The tables' first `count` entries are the segments'.
 pub struct PiecewiseCost {
-    slopes: [f64; 15],
-    intercepts: [f64; 15],
+    slopes: [f64; MOST_SEGMENTS],
+    intercepts: [f64; MOST_SEGMENTS],
     count: usize,
 }
 
@@ -46,12 +51,12 @@ fn segments_of(points: usize) -> usize
 
 impl PiecewiseCost {
     pub fn from_prepared(numbers: &[f64], at: usize, points: usize) -> Self
-        requires { ⌜ (at + 2 * points ≤ length (now numbers)) × (points ≤ 16) ⌝ }
+        requires { ⌜ (at + 2 * points ≤ length (now numbers)) × (points ≤ mostPoints) ⌝ }
         ensures { λ r. ⌜ (r .count ≡ points - 1) × Prepared (now (numbers .entry)) at (r .count) (r .slopes) (r .intercepts) ⌝ }
     {
         let count = segments_of(points);
-        let mut slopes = [0.0; 15];
-        let mut intercepts = [0.0; 15];
+        let mut slopes = [0.0; MOST_SEGMENTS];
+        let mut intercepts = [0.0; MOST_SEGMENTS];
         let mut segment: usize = 0;
         while segment < count {
             slopes[segment] = slope_of(numbers, at, segment);
@@ -67,7 +72,7 @@ impl PiecewiseCost {
 
     // The largest over the segments, whichever curve the tables were made from.
     pub fn evaluate(self, power: f64) -> f64
-        requires { ⌜ self .count ≤ 15 ⌝ }
+        requires { ⌜ self .count < mostPoints ⌝ }
         ensures { λ r. ⌜ ((xs : List Float) (at : ℕ) → Prepared xs at (self .count) (self .slopes) (self .intercepts)
             → r ≡ evaluate xs at (self .count) power) ⌝ }
     {
@@ -87,7 +92,7 @@ impl PiecewiseCost {
 
 // The value of the curve of so many points at the power.
 pub fn curve_value(numbers: &[f64], at: usize, points: usize, power: f64) -> f64
-    requires { ⌜ (at + 2 * points ≤ length (now numbers)) × (points ≤ 16) ⌝ }
+    requires { ⌜ (at + 2 * points ≤ length (now numbers)) × (points ≤ mostPoints) ⌝ }
     ensures { λ r. ⌜ r ≡ evaluate (now (numbers .entry)) at (points - 1) power ⌝ }
 {
     PiecewiseCost::from_prepared(numbers, at, points).evaluate(power)

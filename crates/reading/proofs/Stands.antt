@@ -181,9 +181,9 @@ module _ (ws : List ℕ) (xs : List Float) (G : LaidWords ws (layoutOf ws)) wher
             sized-within 8 1283 (sized-sum 2 0 (table (generators ws) (costTerm ws xs)) (omega (arith, G .few-generators)) (omega arith) (e .all)) (omega arith) (omega (arith, G .few-generators))
         go false = sized-within 8 1283 (sized-constant _) (omega arith) (omega arith)
 
-  -- ---- how many rows: 3 · 256 balances and references, 512 angle differences, 2 · 512 thermal limits, 15 · 256 segments
+  -- ---- how many rows: 3 · 256 balances and references, 512 angle differences, 2 · 512 thermal limits, 8 · 256 segments
 
-  rows-few : length (rows ws xs) ≤ 6144
+  rows-few : length (rows ws xs) ≤ 4352
   unfolding rows thermalRows segmentRows
   rows-few =
       let angle-le = each-le 1 (branches ws) (λ b. keep (angled ws b) (angleRow ws xs b)) (λ b l. keep-le (angled ws b) (angleRow ws xs b)) in
@@ -193,7 +193,7 @@ module _ (ws : List ℕ) (xs : List Float) (G : LaidWords ws (layoutOf ws)) wher
         keep-le (rated ws xs b) (thermalRow ws xs b (pFromPart ws b) (qFromPart ws b)),
         keep-le (rated ws xs b) (thermalRow ws xs b (pToPart ws b) (qToPart ws b)),
       )) in
-      let segment-le = each-le 15 (generators ws) (segmentRows ws xs) (λ g l. segments-le (curved ws g) g l) in
+      let segment-le = each-le 8 (generators ws) (segmentRows ws xs) (λ g l. segments-le (curved ws g) g l) in
       let p = table (buses ws) (pBalanceRow ws xs) in
       let q = table (buses ws) (qBalanceRow ws xs) in
       let r = table (references ws) (referenceRow ws xs) in
@@ -216,7 +216,7 @@ module _ (ws : List ℕ) (xs : List Float) (G : LaidWords ws (layoutOf ws)) wher
         G .few-references,
       )
     where
-      segments-le : (b : Bool) (g : ℕ) → g < generators ws → length (cond b (table (segments ws g) (segmentRow ws xs g)) []) ≤ 15
+      segments-le : (b : Bool) (g : ℕ) → g < generators ws → length (cond b (table (segments ws g) (segmentRow ws xs g)) []) ≤ 8
       segments-le true g l = omega (arith, length-table (segments ws g) (segmentRow ws xs g), G .few-points g l)
       segments-le false g l = omega arith
 
@@ -230,7 +230,7 @@ module _ (ws : List ℕ) (xs : List Float) (G : LaidWords ws (layoutOf ws)) wher
   shared-constants =
       omega (arith, few-constants SharedSized 3 (λ i e f. f .few) 0 (sharedParts ws xs) (shared-sized .all), length-shared ws xs, G .few-buses, G .few-branches)
 
-  row-constants : length (constantsOf (M .rows)) ≤ 1283 * 6144
+  row-constants : length (constantsOf (M .rows)) ≤ 1283 * 4352
   unfolding model
   row-constants =
       let es = map (λ r. r .expression) (rows ws xs) in

@@ -30,7 +30,7 @@ ghost use Rattle.row_values.specs.Answer.{roomOf};
 ghost use Rattle.row_values.specs.contracts.Run.{lengthFault, Settled, Writable, rowsOf};
 
 // How many row values are kept before they are written: as many rows as compile ever writes.
-const ROWS_KEPT: usize = 6144;
+const ROWS_KEPT: usize = 4352;
 
 // 12: the list for shared values, else that for row values.
 fn room_fault(shared: usize, rows: usize, lent_shared: usize, lent_rows: usize) -> Fault

@@ -39,6 +39,12 @@ pub record Solved : Type 0 where
   pub objective : Float
   pub residuals : List Float
 
+-- "A refusal gives number and place, all else 0, except 16, which gives the residuals."
+abbrev pub answered : Fault → Solved → Checked
+answered f s =
+    cond (eqb (f .number) 0) (record { fault = clear; objective = s .objective; residuals = s .residuals })
+    (record { fault = f; objective = zero64; residuals = cond (eqb (f .number) RESIDUAL) (s .residuals) (replicate 8 zero64) })
+
 module _ (ws : List ℕ) (xs x : List Float) (solver : Float) where
   unfoldable pub solved : Solved
   solved =
@@ -81,13 +87,11 @@ module _ (ws : List ℕ) (xs x : List Float) (solver : Float) where
   unfoldable pub checkFault : ℕ → Fault
   checkFault lent = faultOf lent solved
 
-  -- "A refusal gives number and place, all else 0, except 16, which gives the residuals."
   unfoldable pub checked : ℕ → Checked
   checked lent =
       let s = solved in
       let f = faultOf lent s in
-      cond (eqb (f .number) 0) (record { fault = clear; objective = s .objective; residuals = s .residuals })
-      (record { fault = f; objective = zero64; residuals = cond (eqb (f .number) RESIDUAL) (s .residuals) (replicate 8 zero64) })
+      answered f s
 
   -- the output list after the call, from what it held before: the outputs in front and the rest as it was, or all as it was
   abbrev pub outputsAfter : List Float → List Float

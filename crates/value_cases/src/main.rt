@@ -221,7 +221,7 @@ fn lent_right(
 
 fn values_right(data: &[u8], at: usize, words: &[u32], constants: &[f64], point: &[f64]) -> bool {
     let mut shared = [5.0; 4416];
-    let mut rows = [5.0; 6208];
+    let mut rows = [5.0; 4416];
     lent_right(data, at, words, constants, point, &mut shared, &mut rows)
 }
 
@@ -242,7 +242,7 @@ fn file_right(data: &[u8], at: usize, words: &[u32], constants: usize) -> bool {
 }
 
 fn right(data: &[u8], at: usize) -> bool {
-    let mut words = [0u32; 12544];
+    let mut words = [0u32; 8768];
     let mut constants = [0.0; 64];
     let mut point = [0.0; 64];
     let w = words_into(data, at, record_number(data, at, 11), &mut words);

@@ -61,11 +61,11 @@ fn measure(timed: &mut [Timed]) -> Vec<[f64; 2]> {
 
 fn case(sizes: Sizes, curves: bool) -> (Net, Vec<f64>, f64) {
     let mut random = Random::new(1998);
-    let manner = Manner { special: 0, non_finite: 0, curves: if curves { 1000 } else { 0 }, active: 1000, points: 16 };
+    let manner = Manner { special: 0, non_finite: 0, curves: if curves { 1000 } else { 0 }, active: 1000, points: 9 };
     let mut net = networks::net(&mut random, sizes, true, manner);
     for generator in &mut net.generators {
         // As many points in every curve.
-        while curves && generator.curve.len() < 16 {
+        while curves && generator.curve.len() < 9 {
             let [power, value] = generator.curve[generator.curve.len() - 1];
             generator.curve.push([power + 0.5, value + 10.0]);
         }
@@ -125,7 +125,7 @@ fn whole(net: &Net, x: &[f64], own: f64, sizes: Sizes, curves: bool) {
     ];
     let times = measure(&mut timed);
     let Sizes(buses, generators, branches, _) = sizes;
-    let with = if curves { "curves of 16 points" } else { "no curves" };
+    let with = if curves { "curves of 9 points" } else { "no curves" };
     println!("{buses}/{generators}/{branches}, {with}");
     say("Rust, fdlibm: compile", times[0]);
     say("Rust, fdlibm: validate_primal", times[1]);

@@ -22,7 +22,7 @@ pub fn case(seed: u64, number: u64) -> Case {
         non_finite: random.one_of(&[0, 0, 0, 0, 10, 100]),
         curves: random.one_of(&[0, 300, 700, 1000]),
         active: random.one_of(&[0, 500, 800, 1000]),
-        points: random.one_of(&[2, 3, 4, 6, 16, 16]),
+        points: random.one_of(&[2, 3, 4, 6, 9, 9]),
     };
     let sizes = networks::sizes(random);
     let costs = random.chance(650);
@@ -31,7 +31,8 @@ pub fn case(seed: u64, number: u64) -> Case {
         tame(random, &mut net);
     }
     if random.chance(4) && !net.generators.is_empty() {
-        net.generators[0].curve = (0..17).map(|i| [i as f64, i as f64]).collect();
+        let (points, g) = (random.one_of(&[10, 10, 16, 17, 31]), random.below(net.generators.len()));
+        net.generators[g].curve = (0..points).map(|i| [i as f64, i as f64]).collect();
     }
     if random.chance(8) {
         overflow(random, &mut net);

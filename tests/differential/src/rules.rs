@@ -98,5 +98,5 @@ fn past_limit(words: &[u32]) -> Option<usize> {
         .or_else(|| nth(3, 256))
         .or_else(|| nth(4, 512))
         .or_else(|| nth(5, 256))
-        .or_else(|| (0..words.len()).find(|&i| words[i] >> 28 == 3 && points(words[i]) > 16))
+        .or_else(|| (0..words.len()).find(|&i| words[i] >> 28 == 3 && points(words[i]) > 9))
 }

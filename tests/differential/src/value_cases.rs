@@ -8,8 +8,8 @@ use crate::values::{self, Values, MOST_SHARED};
 use oracle::Refusal;
 use std::collections::BTreeSet;
 
-/// The most rows that compile writes: two balances a bus, a reference, an angle and two thermal rows a branch, 15 segments a curve.
-pub const COMPILED_ROWS: usize = 2 * 256 + 256 + 3 * 512 + 15 * 256;
+/// The most rows that compile writes: two balances a bus, a reference, an angle and two thermal rows a branch, eight segments a curve.
+pub const COMPILED_ROWS: usize = 2 * 256 + 256 + 3 * 512 + 8 * 256;
 
 /// Where an argument of sine and cosine is at an end of its range, or next to it; differences of two of these too.
 const ANGLES: [f64; 8] = [4096.0, -4096.0, 4096.000000000001, -4096.000000000001, 4095.9999999999995, 2048.0, -2048.0, -2048.0000000000005];
@@ -71,7 +71,7 @@ impl Case {
             };
             when(shared == MOST_SHARED, "4,352 shared parts");
             when(rows > MOST_SHARED, "more than 4,352 rows");
-            when(rows > COMPILED_ROWS, "more than 6,144 rows");
+            when(rows > COMPILED_ROWS, "more than 4,352 rows");
             when(self.lent[0] > shared || self.lent[1] > rows, "a list longer than needed");
             when(expected.shared.iter().chain(&expected.rows).any(|x| x.to_bits() == 1 << 63), "one of them -0");
         }
@@ -105,7 +105,7 @@ fn compiled(random: &mut Random) -> Option<(File, Vec<f64>)> {
         non_finite: 0,
         curves: random.one_of(&[0, 300, 1000]),
         active: random.one_of(&[0, 500, 1000]),
-        points: random.one_of(&[2, 4, 16]),
+        points: random.one_of(&[2, 4, 9]),
     };
     let (sizes, costs) = (networks::sizes(random), random.chance(650));
     let net = networks::net(random, sizes, costs, manner);
@@ -139,7 +139,7 @@ fn foreign(random: &mut Random) -> (File, Vec<f64>) {
         // An answer of all values is wanted here: no constant is large.
         101..=130 => {
             let shared = random.one_of(&[few[0], MOST_SHARED - 1, MOST_SHARED, MOST_SHARED, MOST_SHARED + 1, MOST_SHARED + 50]);
-            let rows = random.one_of(&[few[1], MOST_SHARED + 1, COMPILED_ROWS - 1, COMPILED_ROWS, COMPILED_ROWS + 1, 9000]);
+            let rows = random.one_of(&[few[1], COMPILED_ROWS - 1, COMPILED_ROWS, COMPILED_ROWS + 1, 9000]);
             let constant = random.one_of::<Constant>(&[unit, unit, usual, large_at_times]);
             model_files::written(random, columns, [shared, rows], constant)
         }

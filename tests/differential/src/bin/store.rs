@@ -117,8 +117,8 @@ fn features(case: &Case, [n, k, m]: [usize; 3]) -> BTreeSet<String> {
             3 => {
                 let points = (word >> 13 & 31) as usize;
                 has(format!("curve {}", points.min(4)));
-                if points == 16 {
-                    has("curve 16".to_owned());
+                if points == 9 {
+                    has("curve 9".to_owned());
                 }
                 has(format!("generator bounded {}", word >> 12 & 1));
                 at += 9 + 2 * points;

@@ -54,7 +54,6 @@ fn large() -> Vec<Case> {
     let mut wrong = many(10, MOST_SHARED + 1, &column, &[], [MOST_SHARED; 2]);
     *wrong.file.words.last_mut().expect("the end word") = 0;
     vec![
-        many(11, MOST_SHARED + 1, &column, &[], [0, room]),
         many(11, COMPILED_ROWS, &column, &[], [0, COMPILED_ROWS]),
         many(11, rows, &column, &[], [0, room]),
         many(11, rows, &column, &[], [0, rows - 1]),

@@ -4,6 +4,7 @@ use Prim.Native.Nat.{_+_, _-_, _*_, _≤_}
 use Rattle.base.specs.Fault.{first}
 use Rattle.base.proofs.Firsts.{Clear}
 use Rattle.base.proofs.Turns.{first-none, first-step, first-here, first-done}
+use Rattle.network.specs.Limits.{mostPoints}
 use Rattle.network.specs.contracts.Records.{Standing}
 use Rattle.acopf.specs.Tallies.{segmentsBefore}
 use Rattle.acopf.proofs.Tallied.{segments-none}
@@ -15,7 +16,7 @@ use Rattle.factor.proofs.factor.curves_factor.Tie as tie
 
 abbrev Inv-loop : tie.InvT-loop
 Inv-loop words numbers layout start place₀ cursor₀ place cursor =
-    Standing words layout cursor × (place ≡ start + 2 * segmentsBefore words (cursor .index)) × (place ≤ start + 32 * cursor .index)
+    Standing words layout cursor × (place ≡ start + 2 * segmentsBefore words (cursor .index)) × (place ≤ start + 2 * mostPoints * cursor .index)
     × Clear (first (cursor .index) (curveFactor words numbers start))
 
 abbrev μ-loop : tie.MeasureT-loop

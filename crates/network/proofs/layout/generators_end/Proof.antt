@@ -14,9 +14,9 @@ use Rattle.network.proofs.Steps.{generator-turn, generator-room}
 use Rattle.network.proofs.layout.generators_end.Statement.{statement}
 use Rattle.network.proofs.layout.generators_end.Tie as tie
 
--- 8 · 256 + 41 · 256
+-- 8 · 256 + 27 · 256
 room : (ws : List ℕ) (n k g at p : ℕ) → n ≡ buses ws → k ≡ generators ws → Clear (faultSize ws) → at ≡ generatorAt ws g
-    → p ≡ generatorPoints (getD ws (1 + n + g) 0) → g < k → at + 9 + 2 * p ≤ 12544
+    → p ≡ generatorPoints (getD ws (1 + n + g) 0) → g < k → at + 9 + 2 * p ≤ 8960
 room ws n k g at p e f s a q h =
     let l = limits ws s in
     omega (arith, generator-room ws n g at p e a q k h, generator-high ws (l .5) k (omega arith), l .1, l .2)

@@ -10,20 +10,21 @@ use borrow.Author.Needs.{needs}
 use Rattle.base.proofs.Firsts.{Clear, unless-proper}
 use Rattle.base.proofs.Turns.{first-none, first-done, test-more, test-here}
 use Rattle.base.specs.Fault.{fault, unless, first}
+use Rattle.network.specs.Limits.{mostPoints}
 use Rattle.network.specs.Word.{generatorPoints}
 use Rattle.network.specs.Network.{buses, points, generatorPlace}
 use Rattle.network.proofs.limits.points_fault.Statement.{statement}
 use Rattle.network.proofs.limits.points_fault.Tie as tie
 
 module _ (ws : List ℕ) (n g p : ℕ) (e : n ≡ buses ws) (f : p ≡ generatorPoints (getD ws (1 + n + g) 0)) where
-  many : 16 < p → leb (points ws g) 16 ≡ false
-  many h = rw (← e, ← f) (lt-leb p 16 h)
+  many : mostPoints < p → leb (points ws g) mostPoints ≡ false
+  many h = rw (← e, ← f) (lt-leb p mostPoints h)
 
-  few : p ≤ 16 → leb (points ws g) 16 ≡ true
-  few h = rw (← e, ← f) (le-leb p 16 h)
+  few : p ≤ mostPoints → leb (points ws g) mostPoints ≡ true
+  few h = rw (← e, ← f) (le-leb p mostPoints h)
 
 abbrev Inv-loop : tie.InvT-loop
-Inv-loop words n k g₀ g = (g ≤ k) × Clear (first g (λ j. unless (leb (points words j) 16) (fault 2 (generatorPlace words j))))
+Inv-loop words n k g₀ g = (g ≤ k) × Clear (first g (λ j. unless (leb (points words j) mostPoints) (fault 2 (generatorPlace words j))))
 
 abbrev μ-loop : tie.MeasureT-loop
 μ-loop words n k g₀ g = k - g
@@ -55,7 +56,7 @@ add-t13 c = search needs
 returns : tie.Need-returns Inv-loop μ-loop
 returns c =
     let pre = c .before .before .before .before .before .before .pre in
-    rw (pre .0) (test-here _ 2 _ _ _ (omega arith) (c .before .before .before .loop-test .taken) (many _ _ _ _ (pre .0) (c .before .generator-points .ensures) (c .if1 .taken)) (c .before .before .before .before .loop .inv .1))
+    rw (pre .0) (test-here _ 2 _ _ _ (omega arith) (c .before .before .before .loop-test .taken) (many _ _ _ _ (pre .0) (c .before .generator-points .ensures) (omega (arith, c .if1 .taken))) (c .before .before .before .before .loop .inv .1))
 
 add-g : tie.Need-add-g Inv-loop μ-loop
 add-g c = search needs
@@ -64,7 +65,7 @@ loop-less : tie.Need-loop-less Inv-loop μ-loop
 loop-less c = search needs
 
 loop-again : tie.Need-loop-again Inv-loop μ-loop
-loop-again c = (omega arith, test-more _ 2 _ _ (few _ _ _ _ (c .before .before .before .before .before .before .pre .0) (c .before .generator-points .ensures) (c .if1 .left)) (c .before .before .before .before .loop .inv .1))
+loop-again c = (omega arith, test-more _ 2 _ _ (few _ _ _ _ (c .before .before .before .before .before .before .pre .0) (c .before .generator-points .ensures) (omega (arith, c .if1 .left))) (c .before .before .before .before .loop .inv .1))
 
 returns-2 : tie.Need-returns-2 Inv-loop μ-loop
 returns-2 c = first-done _ _ _ (omega arith) (λ j. unless-proper _ 2 _ (omega arith)) (c .before .loop .inv .1)

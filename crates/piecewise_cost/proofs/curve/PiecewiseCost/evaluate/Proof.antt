@@ -1,10 +1,11 @@
 use mathlib.Core.List.{List}
 use mathlib.Core.Path.{_≡_, sym, _∙_}
-use Prim.Native.Nat.{ℕ, _-_, _≤_}
+use Prim.Native.Nat.{ℕ, _-_, _≤_, _<_}
 use native.Mathlib.Numerals.{add-one}
 use native.Mathlib.Omega.{arith}
 use lib.Ieee.{Float, div, neg, ofBits}
 use borrow.Author.Needs.{needs}
+use Rattle.network.specs.Limits.{mostPoints}
 use Rattle.piecewise_cost.specs.contracts.Prepared.{Prepared}
 use Rattle.piecewise_cost.specs.Curve.{evaluate}
 use Rattle.piecewise_cost.proofs.Leaves.{evaluate-none, evaluate-next, prepared-slope, prepared-intercept}
@@ -13,7 +14,7 @@ use Rattle.piecewise_cost.proofs.curve.PiecewiseCost.evaluate.Tie as ti
 
 abbrev Inv-loop : tie.InvT-loop
 Inv-loop power slopes intercepts count infinity most₀ segment₀ most segment =
-    (segment ≤ count) × (count ≤ 15) × ((xs : List Float) (at : ℕ) → Prepared xs at count slopes intercepts → most ≡ evaluate xs at segment power)
+    (segment ≤ count) × (count < mostPoints) × ((xs : List Float) (at : ℕ) → Prepared xs at count slopes intercepts → most ≡ evaluate xs at segment power)
 
 abbrev μ-loop : tie.MeasureT-loop
 μ-loop power slopes intercepts count infinity most₀ segment₀ most segment = count - segment

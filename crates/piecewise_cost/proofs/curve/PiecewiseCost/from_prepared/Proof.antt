@@ -4,6 +4,7 @@ use native.Mathlib.Numerals.{add-one}
 use native.Mathlib.Omega.{arith}
 use lib.ListN.{length, length-set}
 use borrow.Author.Needs.{needs}
+use Rattle.network.specs.Limits.{mostPoints}
 use Rattle.piecewise_cost.specs.contracts.Prepared.{Prepared}
 use Rattle.piecewise_cost.proofs.Leaves.{prepared-none, prepared-next}
 use Rattle.piecewise_cost.proofs.curve.PiecewiseCost.from_prepared.Statement.{statement}
@@ -11,7 +12,7 @@ use Rattle.piecewise_cost.proofs.curve.PiecewiseCost.from_prepared.Tie 
 
 abbrev Inv-loop : tie.InvT-loop
 Inv-loop numbers at points count slopes₀ intercepts₀ segment₀ slopes intercepts segment =
-    (segment ≤ count) × (count ≡ points - 1) × (length slopes ≡ 15) × (length intercepts ≡ 15) × Prepared numbers at segment slopes intercepts
+    (segment ≤ count) × (count ≡ points - 1) × (length slopes ≡ mostPoints - 1) × (length intercepts ≡ mostPoints - 1) × Prepared numbers at segment slopes intercepts
 
 abbrev μ-loop : tie.MeasureT-loop
 μ-loop numbers at points count slopes₀ intercepts₀ segment₀ slopes intercepts segment = count - segment

@@ -1,0 +1,117 @@
+-- Document 02 (b): "a network with no curve above nine points gets every answer and list it got before".
+use Prim.Native.Nat.{ℕ, _+_, _*_, _≤_, _<_}
+use native.Mathlib.Omega.{arith}
+use mathlib.Core.Path.{_≡_, refl, ap}
+use mathlib.Core.Bool.{Bool, true, false, cond}
+use mathlib.Core.List.{List}
+use lib.ListN.{length}
+use lib.Dec.{eqb, leb}
+use lib.Ieee.{Float}
+use borrow.Author.Tests.{le-leb, eqb-true}
+use Rattle.base.specs.declared.Fault.{Fault}
+use Rattle.base.specs.Fault.{fault, clear, unless, orElse, first, left}
+use Rattle.base.specs.Refusal.{SIZE}
+use Rattle.base.proofs.Firsts.{Clear, unless-clear, unless-proper, all-clear, first-proper}
+use Rattle.network.specs.Network.{buses, generators, branches, generatorPlace, points}
+use Rattle.network.specs.Fault.{faultWords, faultSizeAt, faultSize, wordsFault, formFault, countFault}
+use Rattle.tables.specs.Fault.{tableSections, faultTables}
+use Rattle.acopf.specs.Factor.{networkSections, networkFault}
+use Rattle.compile.specs.Compile as compile
+use Rattle.compile.specs.Compile.{lengths, compileFault, compiled, sized}
+use Rattle.validate.specs.Check as validate
+use Rattle.validate.specs.Check.{solved, faultOf, checkFault, checked, residualsFault, reported, outputsNeeded}
+use Rattle.depot_text.specs.Input.{formed, inputWords, inputNumbers}
+use Rattle.depot_text.specs.Text.{inputLine, lent, answerText, networkText, output}
+use Rattle.nine_points.specs.Before.{NoLongCurve, firstBefore, NetworkAsBefore, compileBefore, CompileAsBefore}
+use Rattle.nine_points.specs.Before.{checkBefore, residualsBefore, CheckAsBefore, outputBefore}
+
+-- what follows a clear fault alone decides
+orElse-later : (f a b : Fault) → (Clear f → a ≡ b) → orElse f a ≡ orElse f b
+unfolding orElse
+orElse-later f a b h = go (eqb (f .number) 0) refl
+  where
+    go : (c : Bool) → eqb (f .number) 0 ≡ c → cond c a f ≡ cond c b f
+    go true e = h (eqb-true (f .number) 0 e)
+    go false e = refl
+
+module _ (ws : List ℕ) where
+  -- the limit of points, of curves that keep it
+  points-clear : (most : ℕ) → ((g : ℕ) → g < generators ws → points ws g ≤ most)
+      → first (generators ws) (λ g. unless (leb (points ws g) most) (fault SIZE (generatorPlace ws g))) ≡ clear
+  points-clear most h =
+      first-proper (generators ws) (λ g. unless (leb (points ws g) most) (fault SIZE (generatorPlace ws g)))
+      (λ g. unless-proper (leb (points ws g) most) SIZE (generatorPlace ws g) (omega arith))
+      (all-clear (generators ws) (λ g. unless (leb (points ws g) most) (fault SIZE (generatorPlace ws g))) (λ g l. ap (λ f. f .number) (unless-clear (leb (points ws g) most) (fault SIZE (generatorPlace ws g)) (le-leb (points ws g) most (h g l)))))
+
+  -- "no curve above" either limit: 2 is the same with both
+  pub size-same : (most more : ℕ) → most ≤ more → ((g : ℕ) → g < generators ws → points ws g ≤ most) → faultSizeAt ws more ≡ faultSizeAt ws most
+  size-same most more m h = rw (points-clear most h, points-clear more (λ g l. omega (arith, h g l)))
+
+  -- whatever refusals come after 1 and 2
+  pub first-same : NoLongCurve ws → (later : Fault) → orElse (faultWords ws) (orElse (faultSizeAt ws 16) later) ≡ orElse (faultWords ws) (orElse (faultSize ws) later)
+  unfolding faultSize
+  first-same h later = orElse-later (faultWords ws) _ _ (λ c. ap (λ f. orElse f later) (size-same 9 16 (omega arith) (h c)))
+
+  words-same : NoLongCurve ws → orElse (faultWords ws) (faultSizeAt ws 16) ≡ wordsFault ws
+  unfolding wordsFault faultSize
+  words-same h = orElse-later (faultWords ws) _ _ (λ c. size-same 9 16 (omega arith) (h c))
+
+module _ (ws : List ℕ) (xs : List Float) (h : NoLongCurve ws) where
+  network-same : firstBefore ws (networkSections ws xs) ≡ networkFault ws xs
+  unfolding networkFault
+  network-same = first-same ws h _
+
+  tables-same : firstBefore ws (tableSections ws xs) ≡ faultTables ws xs
+  unfolding faultTables
+  tables-same = first-same ws h _
+
+  pub network-as-before : NetworkAsBefore ws xs
+  unfolding formFault
+  network-as-before =
+      record {
+        words = words-same ws h;
+        form = λ count. ap (λ f. orElse f (countFault ws count)) (words-same ws h);
+        tables = tables-same;
+        network = network-same;
+      }
+
+  compile-same : (lent : List ℕ) → compileBefore ws xs lent ≡ compileFault ws xs lent
+  unfolding compileFault
+  compile-same lent = first-same ws h _
+
+  pub compile-as-before : CompileAsBefore ws xs
+  unfolding compiled sized
+  compile-as-before =
+      record {
+        answer = λ lent. ap (compile.answered ws xs) (compile-same lent);
+        list = λ lent result before. ap (λ f. left f result before) (compile-same lent);
+        getters = ap (compile.answered ws xs) (compile-same (lengths ws xs));
+      }
+
+  module _ (x : List Float) (solver : Float) where
+    check-same : (lent : ℕ) → checkBefore ws xs x solver lent ≡ checkFault ws xs x solver lent
+    unfolding checkFault faultOf
+    check-same lent = first-same ws h _
+
+    residuals-same : (lent : ℕ) → residualsBefore ws xs x solver lent ≡ residualsFault ws xs x solver lent
+    unfolding residualsFault
+    residuals-same lent = first-same ws h _
+
+    pub check-as-before : CheckAsBefore ws xs x solver
+    unfolding checked checkFault outputsNeeded
+    check-as-before =
+        record {
+          answer = λ lent. ap (λ f. validate.answered f (solved ws xs x solver)) (check-same lent);
+          outputs = λ before. ap (λ f. left f (solved ws xs x solver .outputs) before) (check-same (length before));
+          residuals = residuals-same;
+          report = λ before. ap (λ f. left f (reported ws xs x solver (solved ws xs x solver)) before) (residuals-same (length before));
+          needed = ap (λ f. cond (eqb (f .number) 0) (2 * buses ws + 4 * branches ws) 0) network-same;
+        }
+
+-- the program depot prints what it printed
+pub depot-as-before : (bytes : List ℕ) → NoLongCurve (inputWords bytes) → outputBefore bytes ≡ output bytes
+unfolding output networkText
+depot-as-before bytes h =
+    let ws = inputWords bytes in
+    let xs = inputNumbers bytes in
+    ap (λ c. cond (formed bytes) (answerText ws xs (c .fault)) inputLine) (compile-as-before ws xs h .answer lent)
