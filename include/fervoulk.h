@@ -17,7 +17,7 @@
  *
  * Beyond that any words, numbers and lengths may be handed in. Every call ends and answers, keeps no pointer and no state, and may run in
  * several threads at once. A list holds, after the call, either the finished result in its front part with the rest as it was, or,
- * after a refusal, exactly what it held before. Row values take some 86 KiB of stack, the check some 34 KiB and fervoulk_residuals about as
+ * after a refusal, exactly what it held before. Row values take some 72 KiB of stack, the check some 34 KiB and fervoulk_residuals about as
  * much, compile 6 KiB, the finder and the two counts less than 4 KiB.
  */
 #ifndef FERVOULK_H

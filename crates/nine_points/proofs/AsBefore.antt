@@ -9,9 +9,10 @@ use lib.Dec.{eqb, leb}
 use lib.Ieee.{Float}
 use borrow.Author.Tests.{le-leb, eqb-true}
 use Rattle.base.specs.declared.Fault.{Fault}
-use Rattle.base.specs.Fault.{fault, clear, unless, orElse, first, left}
+use Rattle.base.specs.Fault.{fault, unless, orElse, left}
 use Rattle.base.specs.Refusal.{SIZE}
-use Rattle.base.proofs.Firsts.{Clear, unless-clear, unless-proper, all-clear, first-proper}
+use Rattle.base.proofs.Firsts.{Clear}
+use Rattle.base.proofs.Scans.{first-same}
 use Rattle.network.specs.Network.{buses, generators, branches, generatorPlace, points}
 use Rattle.network.specs.Fault.{faultWords, faultSizeAt, faultSize, wordsFault, formFault, countFault}
 use Rattle.tables.specs.Fault.{tableSections, faultTables}
@@ -35,22 +36,20 @@ orElse-later f a b h = go (eqb (f .number) 0) refl
     go false e = refl
 
 module _ (ws : List ℕ) where
-  -- the limit of points, of curves that keep it
-  points-clear : (most : ℕ) → ((g : ℕ) → g < generators ws → points ws g ≤ most)
-      → first (generators ws) (λ g. unless (leb (points ws g) most) (fault SIZE (generatorPlace ws g))) ≡ clear
-  points-clear most h =
-      first-proper (generators ws) (λ g. unless (leb (points ws g) most) (fault SIZE (generatorPlace ws g)))
-      (λ g. unless-proper (leb (points ws g) most) SIZE (generatorPlace ws g) (omega arith))
-      (all-clear (generators ws) (λ g. unless (leb (points ws g) most) (fault SIZE (generatorPlace ws g))) (λ g l. ap (λ f. f .number) (unless-clear (leb (points ws g) most) (fault SIZE (generatorPlace ws g)) (le-leb (points ws g) most (h g l)))))
-
   -- "no curve above" either limit: 2 is the same with both
   pub size-same : (most more : ℕ) → most ≤ more → ((g : ℕ) → g < generators ws → points ws g ≤ most) → faultSizeAt ws more ≡ faultSizeAt ws most
-  size-same most more m h = rw (points-clear most h, points-clear more (λ g l. omega (arith, h g l)))
+  size-same most more m h = rw (first-same (generators ws) (points-fault more) (points-fault most) (λ g l. kept g (h g l)))
+    where
+      points-fault : ℕ → ℕ → Fault
+      points-fault limit g = unless (leb (points ws g) limit) (fault SIZE (generatorPlace ws g))
+
+      kept : (g : ℕ) → points ws g ≤ most → points-fault more g ≡ points-fault most g
+      kept g p = rw (le-leb (points ws g) most p, le-leb (points ws g) more (omega arith))
 
   -- whatever refusals come after 1 and 2
-  pub first-same : NoLongCurve ws → (later : Fault) → orElse (faultWords ws) (orElse (faultSizeAt ws 16) later) ≡ orElse (faultWords ws) (orElse (faultSize ws) later)
+  pub refusals-same : NoLongCurve ws → (later : Fault) → orElse (faultWords ws) (orElse (faultSizeAt ws 16) later) ≡ orElse (faultWords ws) (orElse (faultSize ws) later)
   unfolding faultSize
-  first-same h later = orElse-later (faultWords ws) _ _ (λ c. ap (λ f. orElse f later) (size-same 9 16 (omega arith) (h c)))
+  refusals-same h later = orElse-later (faultWords ws) _ _ (λ c. ap (λ f. orElse f later) (size-same 9 16 (omega arith) (h c)))
 
   words-same : NoLongCurve ws → orElse (faultWords ws) (faultSizeAt ws 16) ≡ wordsFault ws
   unfolding wordsFault faultSize
@@ -59,11 +58,11 @@ module _ (ws : List ℕ) where
 module _ (ws : List ℕ) (xs : List Float) (h : NoLongCurve ws) where
   network-same : firstBefore ws (networkSections ws xs) ≡ networkFault ws xs
   unfolding networkFault
-  network-same = first-same ws h _
+  network-same = refusals-same ws h _
 
   tables-same : firstBefore ws (tableSections ws xs) ≡ faultTables ws xs
   unfolding faultTables
-  tables-same = first-same ws h _
+  tables-same = refusals-same ws h _
 
   pub network-as-before : NetworkAsBefore ws xs
   unfolding formFault
@@ -77,7 +76,7 @@ module _ (ws : List ℕ) (xs : List Float) (h : NoLongCurve ws) where
 
   compile-same : (lent : List ℕ) → compileBefore ws xs lent ≡ compileFault ws xs lent
   unfolding compileFault
-  compile-same lent = first-same ws h _
+  compile-same lent = refusals-same ws h _
 
   pub compile-as-before : CompileAsBefore ws xs
   unfolding compiled sized
@@ -91,11 +90,11 @@ module _ (ws : List ℕ) (xs : List Float) (h : NoLongCurve ws) where
   module _ (x : List Float) (solver : Float) where
     check-same : (lent : ℕ) → checkBefore ws xs x solver lent ≡ checkFault ws xs x solver lent
     unfolding checkFault faultOf
-    check-same lent = first-same ws h _
+    check-same lent = refusals-same ws h _
 
     residuals-same : (lent : ℕ) → residualsBefore ws xs x solver lent ≡ residualsFault ws xs x solver lent
     unfolding residualsFault
-    residuals-same lent = first-same ws h _
+    residuals-same lent = refusals-same ws h _
 
     pub check-as-before : CheckAsBefore ws xs x solver
     unfolding checked checkFault outputsNeeded

@@ -5,13 +5,12 @@ use Prim.Native.Nat.{ℕ, _+_, _*_, _≤_, _<_}
 use mathlib.Core.Path.{_≡_}
 use mathlib.Core.Bool.{cond}
 use mathlib.Core.List.{List, [], _∷_, _++_}
-use lib.ListN.{length}
+use lib.ListN.{length, drop}
 use lib.Dec.{eqb}
 use lib.Ieee.{Float}
 use Rattle.base.specs.declared.Fault.{Fault}
 use Rattle.base.specs.Fault.{orElse, Section, section, firstOf, left}
-use Rattle.base.specs.Order.{member}
-use Rattle.base.specs.Refusal.{SIZE}
+use Rattle.base.specs.Refusal.{WORDS, SIZE}
 use Rattle.network.specs.Network.{buses, generators, branches, points}
 use Rattle.network.specs.Fault.{faultWords, faultSizeAt, countFault, wordsFault, formFault}
 use Rattle.tables.specs.Fault.{tableSections, faultTables}
@@ -24,19 +23,14 @@ use Rattle.validate.specs.Check.{reported, reportSections, residualsFault, repo
 use Rattle.depot_text.specs.Input.{formed, inputWords, inputNumbers}
 use Rattle.depot_text.specs.Text.{inputLine, lent, answerText}
 
--- these sections, with f for the one that gives the number
-abbrev pub instead : ℕ → Fault → List Section → List Section
-instead number f [] = []
-instead number f (s ∷ later) = cond (member number (s .numbers)) (section (s .numbers) f) s ∷ instead number f later
-
 module _ (ws : List ℕ) where
   -- "a network with no curve above nine points"; of words that 1 refuses nothing is asked
   abbrev pub NoLongCurve : Type 0
   NoLongCurve = faultWords ws .number ≡ 0 → (g : ℕ) → g < generators ws → points ws g ≤ 9
 
-  -- the first refusal of these sections before: 2 with 16 points a curve, all else as it is
+  -- the first refusal before: 1, then 2 with 16 points a curve, then what comes after these two among the sections of now
   abbrev pub firstBefore : List Section → Fault
-  firstBefore sections = firstOf (instead SIZE (faultSizeAt ws 16) sections)
+  firstBefore sections = firstOf (section (WORDS ∷ []) (faultWords ws) ∷ section (SIZE ∷ []) (faultSizeAt ws 16) ∷ drop 2 sections)
 
 module _ (ws : List ℕ) (xs : List Float) where
   -- refusals 1 and 2, 1 to 3, 1 to 10, 1 to 11
