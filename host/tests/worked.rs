@@ -40,7 +40,7 @@ impl Case<'_> {
         Some(self.fields.get(field)?.split(' ').map(|item| item.parse().expect("a number")).collect())
     }
 
-    fn network(&self) -> (Vec<u32>, Vec<f64>) {
+    fn tables(&self) -> (Vec<u32>, Vec<f64>) {
         let words = self.patterns("given_words").expect("words");
         let numbers = self.patterns("given_numbers").expect("numbers");
         (words.iter().map(|&word| word as u32).collect(), numbers.into_iter().map(f64::from_bits).collect())
@@ -71,7 +71,7 @@ fn compiled(words: &[u32], numbers: &[f64], lengths: &[usize]) -> (u64, Vec<u32>
 
 /// Every function that a network is handed to refuses it as the case says, and none refuses it for its network where the case does not.
 fn network(case: &Case) {
-    let (words, numbers) = case.network();
+    let (words, numbers) = case.tables();
     let [w, c, n, r, _] = counts(&words, &numbers);
     assert_eq!(compiled(&words, &numbers, &[w, c, n, n, n, r, r]).0, case.packed(), "{}", case.name);
     let refused = case.packed() != 0;
@@ -86,7 +86,7 @@ fn network(case: &Case) {
 
 /// The fields that the case names, by bits; the lists are the fronts that the counts name.
 fn compile(case: &Case) {
-    let (words, numbers) = case.network();
+    let (words, numbers) = case.tables();
     let (answer, file, lists) = compiled(&words, &numbers, &case.decimals("given_lengths").expect("lengths"));
     assert_eq!(answer, case.packed(), "{}", case.name);
     let all = counts(&words, &numbers);

@@ -49,11 +49,11 @@ module _ (ws : List ℕ) where
   -- whatever refusals come after 1 and 2
   pub refusals-same : NoLongCurve ws → (later : Fault) → orElse (faultWords ws) (orElse (faultSizeAt ws 16) later) ≡ orElse (faultWords ws) (orElse (faultSize ws) later)
   unfolding faultSize
-  refusals-same h later = orElse-later (faultWords ws) _ _ (λ c. ap (λ f. orElse f later) (size-same 9 16 (omega arith) (h c)))
+  refusals-same h later = orElse-later (faultWords ws) _ _ (λ c. ap (λ f. orElse f later) (size-same 9 16 (omega arith) (λ g l. omega (arith, h c g l))))
 
   words-same : NoLongCurve ws → orElse (faultWords ws) (faultSizeAt ws 16) ≡ wordsFault ws
   unfolding wordsFault faultSize
-  words-same h = orElse-later (faultWords ws) _ _ (λ c. size-same 9 16 (omega arith) (h c))
+  words-same h = orElse-later (faultWords ws) _ _ (λ c. size-same 9 16 (omega arith) (λ g l. omega (arith, h c g l)))
 
 module _ (ws : List ℕ) (xs : List Float) (h : NoLongCurve ws) where
   network-same : firstBefore ws (networkSections ws xs) ≡ networkFault ws xs

@@ -10,7 +10,7 @@ ghost use Rattle.network.specs.Limits.{mostPoints};
 ghost use Rattle.piecewise_cost.specs.Curve.{slope, intercept, evaluate};
 ghost use Rattle.piecewise_cost.specs.contracts.Prepared.{Prepared};
 
-// A curve has a segment less than points.
+// A curve has one segment fewer than it has points.
 const MOST_SEGMENTS: usize = MOST_POINTS - 1;
 
 // The tables' first `count` entries are the segments'.
