@@ -8,11 +8,12 @@
 mod boundary;
 #[allow(dead_code)]
 mod depot;
+mod lent;
 
-use boundary::compile::{fervoulk_compile, Lists};
 use boundary::row_values::{fervoulk_row_count, fervoulk_row_values, fervoulk_row_values_objective, fervoulk_shared_count};
 use boundary::validate::{fervoulk_check, fervoulk_objective, fervoulk_residual};
 use depot::{crossed, CONSTANTS, FILE, INACTIVE, NUMBERS, WORDS};
+use lent::{compile_into, packed};
 
 const POINT: [f64; 4] = [0.0, 1.0, 1.0, 0.25];
 const LENT: usize = 64;
@@ -62,10 +63,6 @@ fn checked(words: &[u32], numbers: &[f64], point: &[f64], solver: f64, length: u
     answer
 }
 
-fn packed(number: u64, place: u64) -> u64 {
-    number << 32 | place
-}
-
 #[test]
 fn outputs() {
     assert_eq!(checked(&WORDS, &NUMBERS, &POINT, 8.0, LENT, &[0.0, 0.0]), 0);
@@ -87,9 +84,7 @@ const GUARD: u32 = 0xfedc_ba98;
 fn compiled(words: &[u32], numbers: &[f64], lengths: [usize; 7]) -> (u64, bool, bool) {
     let mut file = vec![GUARD; lengths[0]];
     let mut lists: Vec<Vec<f64>> = lengths[1..].iter().map(|&length| nans(length)).collect();
-    let [constants, column_lower, column_upper, start, row_lower, row_upper] = &mut lists[..] else { unreachable!() };
-    let lent = Lists { words: &mut file, constants, column_lower, column_upper, start, row_lower, row_upper };
-    let answer = fervoulk_compile(words, numbers, lent);
+    let answer = compile_into(words, numbers, &mut file, &mut lists);
     let same = file.iter().all(|&word| word == GUARD) && lists.iter().all(|list| holds(list, &[]));
     let fronts: [&[f64]; 6] =
         [&CONSTANTS, &[-1e19, 0.9, 0.0, -1.0], &[1e19, 1.1, 2.0, 1.0], &[0.0, 1.0, 1.0, 0.25], &[0.0, 0.0, 0.0], &[0.0, 0.0, 0.0]];

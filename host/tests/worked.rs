@@ -4,14 +4,15 @@
 #[allow(dead_code)]
 #[path = "../src/boundary/mod.rs"]
 mod boundary;
+mod lent;
 
 use boundary::compile::{
-    fervoulk_columns, fervoulk_compile, fervoulk_constants, fervoulk_objective_constant, fervoulk_rows, fervoulk_shared, fervoulk_words,
-    Lists,
+    fervoulk_columns, fervoulk_constants, fervoulk_objective_constant, fervoulk_rows, fervoulk_shared, fervoulk_words,
 };
 use boundary::validate::{fervoulk_check, fervoulk_outputs, fervoulk_residuals};
 // brings the archives in
 use fervoulk as _;
+use lent::{compile_into, packed};
 use std::collections::HashMap;
 
 struct Case<'a> {
@@ -50,7 +51,7 @@ impl Case<'_> {
     fn packed(&self) -> u64 {
         let one = |field| self.decimals(field).map_or(0, |list| list[0] as u64);
         assert!(self.fields.contains_key("number"), "{}", self.name);
-        one("number") << 32 | one("place")
+        packed(one("number"), one("place"))
     }
 }
 
@@ -64,9 +65,7 @@ fn counts(words: &[u32], numbers: &[f64]) -> [usize; 5] {
 fn compiled(words: &[u32], numbers: &[f64], lengths: &[usize]) -> (u64, Vec<u32>, Vec<Vec<f64>>) {
     let mut file = vec![0; lengths[0]];
     let mut lists: Vec<Vec<f64>> = lengths[1..].iter().map(|&length| vec![0.0; length]).collect();
-    let [constants, column_lower, column_upper, start, row_lower, row_upper] = &mut lists[..] else { panic!("seven lengths") };
-    let lent = Lists { words: &mut file, constants, column_lower, column_upper, start, row_lower, row_upper };
-    (fervoulk_compile(words, numbers, lent), file, lists)
+    (compile_into(words, numbers, &mut file, &mut lists), file, lists)
 }
 
 /// Every function that a network is handed to refuses it as the case says, and none refuses it for its network where the case does not.
@@ -78,7 +77,7 @@ fn network(case: &Case) {
     assert_eq!(w == 0, refused, "{}", case.name);
     assert_eq!(fervoulk_outputs(&words, &numbers) == 0, refused, "{}", case.name);
     // With no point, 13 follows where the network is not refused.
-    let point = if refused { case.packed() } else { 13 << 32 | n as u64 };
+    let point = if refused { case.packed() } else { packed(13, n as u64) };
     let mut outputs = vec![0.0; fervoulk_outputs(&words, &numbers)];
     assert_eq!(fervoulk_check(&words, &numbers, &[], 0.0, &mut outputs), point, "{}", case.name);
     assert_eq!(fervoulk_residuals(&words, &numbers, &[], 0.0, &mut [0.0; 9]), point, "{}", case.name);

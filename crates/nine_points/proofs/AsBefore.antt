@@ -46,14 +46,17 @@ module _ (ws : List ℕ) where
       kept : (g : ℕ) → points ws g ≤ most → points-fault more g ≡ points-fault most g
       kept g p = rw (le-leb (points ws g) most p, le-leb (points ws g) more (omega arith))
 
+  size-before : NoLongCurve ws → Clear (faultWords ws) → faultSizeAt ws 16 ≡ faultSize ws
+  unfolding faultSize
+  size-before h c = size-same 9 16 (omega arith) (λ g l. omega (arith, h c g l))
+
   -- whatever refusals come after 1 and 2
   pub refusals-same : NoLongCurve ws → (later : Fault) → orElse (faultWords ws) (orElse (faultSizeAt ws 16) later) ≡ orElse (faultWords ws) (orElse (faultSize ws) later)
-  unfolding faultSize
-  refusals-same h later = orElse-later (faultWords ws) _ _ (λ c. ap (λ f. orElse f later) (size-same 9 16 (omega arith) (λ g l. omega (arith, h c g l))))
+  refusals-same h later = orElse-later (faultWords ws) _ _ (λ c. ap (λ f. orElse f later) (size-before h c))
 
   words-same : NoLongCurve ws → orElse (faultWords ws) (faultSizeAt ws 16) ≡ wordsFault ws
-  unfolding wordsFault faultSize
-  words-same h = orElse-later (faultWords ws) _ _ (λ c. size-same 9 16 (omega arith) (λ g l. omega (arith, h c g l)))
+  unfolding wordsFault
+  words-same h = orElse-later (faultWords ws) _ _ (size-before h)
 
 module _ (ws : List ℕ) (xs : List Float) (h : NoLongCurve ws) where
   network-same : firstBefore ws (networkSections ws xs) ≡ networkFault ws xs

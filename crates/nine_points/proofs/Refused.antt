@@ -16,7 +16,7 @@ use Rattle.network.specs.Fault.{faultWords, faultSize, wordsFault}
 use Rattle.acopf.specs.Factor.{networkFault}
 use Rattle.compile.specs.Compile.{compileFault}
 use Rattle.validate.specs.Check.{faultOf, checkFault, residualsFault}
-use Rattle.nine_points.specs.Refused.{FirstLong, RefusedAt}
+use Rattle.nine_points.specs.Refused.{FirstLong, RefusedWith}
 
 module _ (ws : List ℕ) (g : ℕ) (L : FirstLong ws g) where
   before-clear : Clear (first g (λ h. unless (leb (points ws h) 9) (fault SIZE (generatorPlace ws h))))
@@ -38,7 +38,7 @@ module _ (ws : List ℕ) (g : ℕ) (L : FirstLong ws g) where
   unfolding wordsFault
   words-refused = or-go (faultWords ws) (faultSize ws) (L .words) ∙ size-is
 
-  pub ten-refused : (xs : List Float) → RefusedAt ws xs g
+  pub ten-refused : (xs : List Float) → RefusedWith ws xs (fault SIZE (generatorPlace ws g))
   unfolding networkFault compileFault checkFault faultOf residualsFault
   ten-refused xs =
       record {

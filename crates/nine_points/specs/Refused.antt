@@ -3,9 +3,8 @@ use Prim.Native.Nat.{ℕ, _≤_, _<_}
 use mathlib.Core.Path.{_≡_}
 use mathlib.Core.List.{List}
 use lib.Ieee.{Float}
-use Rattle.base.specs.Fault.{fault}
-use Rattle.base.specs.Refusal.{SIZE}
-use Rattle.network.specs.Network.{buses, generators, branches, references, generatorPlace, points}
+use Rattle.base.specs.declared.Fault.{Fault}
+use Rattle.network.specs.Network.{buses, generators, branches, references, points}
 use Rattle.network.specs.Fault.{faultWords, wordsFault}
 use Rattle.acopf.specs.Factor.{networkFault}
 use Rattle.compile.specs.Compile.{compileFault}
@@ -23,10 +22,10 @@ pub record FirstLong (ws : List ℕ) (g : ℕ) : Type 0 where
   pub long : 10 ≤ points ws g
   pub before : (h : ℕ) → h < g → points ws h ≤ 9
 
--- whichever header and numbers, whatever is lent
-pub record RefusedAt (ws : List ℕ) (xs : List Float) (g : ℕ) : Type 0 where
-  pub words : wordsFault ws ≡ fault SIZE (generatorPlace ws g)
-  pub network : networkFault ws xs ≡ fault SIZE (generatorPlace ws g)
-  pub compile : (lent : List ℕ) → compileFault ws xs lent ≡ fault SIZE (generatorPlace ws g)
-  pub check : (x : List Float) (solver : Float) (lent : ℕ) → checkFault ws xs x solver lent ≡ fault SIZE (generatorPlace ws g)
-  pub residuals : (x : List Float) (solver : Float) (lent : ℕ) → residualsFault ws xs x solver lent ≡ fault SIZE (generatorPlace ws g)
+-- with this refusal, whichever header and numbers, whatever is lent
+pub record RefusedWith (ws : List ℕ) (xs : List Float) (f : Fault) : Type 0 where
+  pub words : wordsFault ws ≡ f
+  pub network : networkFault ws xs ≡ f
+  pub compile : (lent : List ℕ) → compileFault ws xs lent ≡ f
+  pub check : (x : List Float) (solver : Float) (lent : ℕ) → checkFault ws xs x solver lent ≡ f
+  pub residuals : (x : List Float) (solver : Float) (lent : ℕ) → residualsFault ws xs x solver lent ≡ f

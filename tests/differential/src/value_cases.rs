@@ -70,7 +70,6 @@ impl Case {
                 }
             };
             when(shared == MOST_SHARED, "4,352 shared parts");
-            when(rows > MOST_SHARED, "more than 4,352 rows");
             when(rows > COMPILED_ROWS, "more than 4,352 rows");
             when(self.lent[0] > shared || self.lent[1] > rows, "a list longer than needed");
             when(expected.shared.iter().chain(&expected.rows).any(|x| x.to_bits() == 1 << 63), "one of them -0");
