@@ -37,7 +37,8 @@ typedef char fervoulk_size_t_has_64_bits[sizeof(size_t) == 8 ? 1 : -1];
 
 /*
  * The refusals' numbers, each named by its word; 19 has none, and its name says what is refused. What the place is stands beside it.
- * Compile uses 1 to 12, the check 1 to 16, the finder 17 and 18; the first fault decides, by number, but 8, 9 and 10 branch by branch.
+ * Compile uses 1 to 12, the check 1 to 16 and 20, the finder 17 and 18; the first fault decides, by number, but 8, 9 and 10 branch by
+ * branch, and 20 comes after 12 and before 13.
  * Row values use 17, 2, 12 and 13, in this order, then 14 and 19 part by part; fervoulk_row_values says what they are there.
  */
 enum fervoulk_refusal {
@@ -57,10 +58,11 @@ enum fervoulk_refusal {
     FERVOULK_POINT = 13,    /* point of a wrong length: the number of columns; else its first column that is not finite */
     FERVOULK_SWING = 14,    /* voltage angle outside -1,024 to 1,024: the column; in row values an argument: its part's beginning word */
     FERVOULK_DERIVED = 15,  /* output not finite: its index; 2n + 4m for the solver's objective, 2n + 4m + 1 for the check's own */
-    FERVOULK_RESIDUAL = 16, /* a residual above its tolerance: the first, from 1 */
+    FERVOULK_RESIDUAL = 16, /* a residual above its own tolerance: the first, from 1 */
     FERVOULK_MODEL = 17,    /* model words wrong: the first wrong word, the length where they run out, the end word with constants left */
     FERVOULK_ROW = 18,      /* no such row: the number of rows */
-    FERVOULK_VALUE = 19     /* value of a shared part, row or the objective not finite: the beginning word of that part of the file */
+    FERVOULK_VALUE = 19,    /* value of a shared part, row or the objective not finite: the beginning word of that part of the file */
+    FERVOULK_TOLERANCE = 20 /* list of other than eight tolerances: 0; else the first that is not finite or below 0, from 1 */
 };
 
 /*
@@ -82,7 +84,7 @@ static inline uint32_t fervoulk_place(uint64_t answer) {
 static inline const char *fervoulk_word(uint32_t number) {
     static const char *const words[] = {
         "", "words", "size", "count", "blank", "curve", "shift", "bounds", "spread", "rating",
-        "square", "factor", "short", "point", "swing", "derived", "residual", "model", "row"};
+        "square", "factor", "short", "point", "swing", "derived", "residual", "model", "row", "", "tolerance"};
     return number < sizeof words / sizeof words[0] ? words[number] : "";
 }
 
@@ -139,24 +141,41 @@ double fervoulk_objective_constant(const uint32_t *words, size_t words_length, c
 /* ---- Check: whether a solver's point is accepted (libvalidate.a) */
 
 /*
+ * The eight residuals, and the eight tolerances of the list that a caller lends with a point, in this order. A tolerance is finite and not
+ * below 0; -0 is 0. A residual equal to its tolerance passes. Eight times 1e-6 is what the Rust takes.
+ */
+enum fervoulk_residual_of {
+    FERVOULK_ACTIVE_BALANCE = 0,
+    FERVOULK_REACTIVE_BALANCE = 1,
+    FERVOULK_VARIABLE_BOUNDS = 2,
+    FERVOULK_REFERENCE_ANGLES = 3,
+    FERVOULK_ANGLE_LIMITS = 4,
+    FERVOULK_THERMAL_LIMITS = 5,
+    FERVOULK_EPIGRAPH = 6,
+    FERVOULK_OBJECTIVE_DIFFERENCE = 7, /* over max(1, absolute objective) */
+    FERVOULK_RESIDUALS = 8             /* how many there are */
+};
+
+/*
  * How many outputs the check has for this network: 2n + 4m, with n buses and m branches. It is 0 where the network is refused (1 to 11),
  * and only there. It writes nothing. A list of this length is never refusal 12.
  */
 size_t fervoulk_outputs(const uint32_t *words, size_t words_length, const double *numbers, size_t numbers_length);
 
 /*
- * Checks `point`, a value for each column, of the network of `words` and `numbers`, with the solver's own objective `solver`. Answers
- * number and place, number 1 to 16 or 0; 0 alone means that the point is accepted.
+ * Checks `point`, a value for each column, of the network of `words` and `numbers`, with the solver's own objective `solver`, each residual
+ * against its own of `tolerances`. Answers number and place, number 1 to 16, 20 or 0; 0 alone means that the point is accepted.
  *
  * Where the number is 0, `outputs` holds in front the fervoulk_outputs numbers: all p injections, all q injections, all p_from, all
  * q_from, all p_to, all q_to; the rest is as it was. Where it is not 0, all of `outputs` is as it was. A list shorter than
- * fervoulk_outputs is refusal 12, place 1. The other three lists are never written.
+ * fervoulk_outputs is refusal 12, place 1. The other four lists are never written.
  */
 uint64_t fervoulk_check(
     const uint32_t *words, size_t words_length,
     const double *numbers, size_t numbers_length,
     const double *point, size_t point_length,
     double solver,
+    const double *tolerances, size_t tolerances_length,
     double *outputs, size_t outputs_length);
 
 /*
@@ -168,24 +187,26 @@ double fervoulk_objective(
     const double *numbers, size_t numbers_length,
     const double *point, size_t point_length,
     double solver,
+    const double *tolerances, size_t tolerances_length,
     double *outputs, size_t outputs_length);
 
 /*
- * The same check once more: answers residual `i`, from 0: active balance, reactive balance, variable bounds, reference angles, angle
- * limits, thermal limits, epigraph, objective difference over max(1, absolute objective). There are residuals where the point is accepted
- * and where it is refused with 16; else, and for an `i` above 7, the answer is +0. Leaves `outputs` as fervoulk_check does.
+ * The same check once more: answers residual `i` of fervoulk_residual_of. There are residuals where the point is accepted and where it is
+ * refused with 16; else, and for an `i` above 7, the answer is +0. Leaves `outputs` as fervoulk_check does.
  */
 double fervoulk_residual(
     const uint32_t *words, size_t words_length,
     const double *numbers, size_t numbers_length,
     const double *point, size_t point_length,
     double solver,
+    const double *tolerances, size_t tolerances_length,
     double *outputs, size_t outputs_length,
     size_t i);
 
 /*
- * All eight residuals, in that order, and then the objective, by one run: in front of `report`, a list of nine or more, whether a residual
- * is above its tolerance or not. Answers number and place as fervoulk_check does for 1 to 15, but 12, place 1, is for `report`; never 16.
+ * All eight residuals, in that order, and then the objective, by one run: in front of `report`, a list of nine or more, whatever the
+ * tolerances, so that none is lent. Answers number and place as fervoulk_check does for 1 to 15, but 12, place 1, is for `report`; never 16
+ * or 20.
  * Where the number is 0, the list holds the nine numbers in front and the rest is as it was; where it is not 0, all of it is as it was.
  * The point is accepted only where fervoulk_check answers 0.
  */

@@ -46,7 +46,7 @@ pub enum Kind {
     /// An output is not finite: its index. With n buses and m branches, 2n + 4m stands for the solver's objective and 2n + 4m + 1 for the
     /// check's own.
     Derived,
-    /// A residual is above its tolerance: the first, from 1.
+    /// A residual is above its own tolerance: the first, from 1.
     Residual,
     /// The model's words are wrong: the first wrong word, the length where they run out, the end word where constants are left over.
     Model,
@@ -54,6 +54,9 @@ pub enum Kind {
     Row,
     /// The value of a shared part, a row or the objective is not finite: the beginning word of that part of the file.
     Value,
+    /// The list of tolerances does not have eight: 0. Else a tolerance is not finite or below 0: the first, from 1. The functions of this
+    /// crate lend eight, so that they never give 0.
+    Tolerance,
 }
 
 impl Kind {
@@ -83,6 +86,7 @@ impl Kind {
         Kind::Model,
         Kind::Row,
         Kind::Value,
+        Kind::Tolerance,
     ];
 
     /// The kind that has this number, where there is one.
@@ -132,6 +136,7 @@ impl Kind {
             Kind::Model => "model",
             Kind::Row => "row",
             Kind::Value => "",
+            Kind::Tolerance => "tolerance",
         }
     }
 }
@@ -239,6 +244,7 @@ mod tests {
         assert_eq!(Refusal::of((7 << 32) + 2), Some(Refusal::new(Kind::Bounds, 2)));
         assert_eq!(Refusal::of((18 << 32) + 0xffff_ffff), Some(Refusal::new(Kind::Row, u32::MAX)));
         assert_eq!(Refusal::of((19 << 32) + 3), Some(Refusal::new(Kind::Value, 3)));
+        assert_eq!(Refusal::of((20 << 32) + 8), Some(Refusal::new(Kind::Tolerance, 8)));
     }
 
     #[test]

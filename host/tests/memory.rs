@@ -47,20 +47,24 @@ fn nans_of_all_kinds() {
     assert_eq!(all.len(), LENT);
 }
 
-/// The check by each of its functions: the packed answer, and what the list then has in front.
-fn checked(words: &[u32], numbers: &[f64], point: &[f64], solver: f64, length: usize, front: &[f64]) -> u64 {
+/// The check by each of its functions, with these tolerances: the packed answer, and what the list then has in front.
+fn checked_within(tolerances: &[f64], words: &[u32], numbers: &[f64], point: &[f64], solver: f64, length: usize, front: &[f64]) -> u64 {
     let mut outputs = nans(length);
-    let answer = fervoulk_check(words, numbers, point, solver, &mut outputs);
+    let answer = fervoulk_check(words, numbers, point, solver, tolerances, &mut outputs);
     assert!(holds(&outputs, front), "fervoulk_check");
     let mut outputs = nans(length);
-    fervoulk_objective(words, numbers, point, solver, &mut outputs);
+    fervoulk_objective(words, numbers, point, solver, tolerances, &mut outputs);
     assert!(holds(&outputs, front), "fervoulk_objective");
     for i in 0..9 {
         let mut outputs = nans(length);
-        fervoulk_residual(words, numbers, point, solver, &mut outputs, i);
+        fervoulk_residual(words, numbers, point, solver, tolerances, &mut outputs, i);
         assert!(holds(&outputs, front), "fervoulk_residual {i}");
     }
     answer
+}
+
+fn checked(words: &[u32], numbers: &[f64], point: &[f64], solver: f64, length: usize, front: &[f64]) -> u64 {
+    checked_within(&[1e-6; 8], words, numbers, point, solver, length, front)
 }
 
 #[test]
@@ -76,6 +80,9 @@ fn outputs() {
     assert_eq!(checked(&WORDS, &NUMBERS, &[1025.0, 1.0, 1.0, 0.25], 8.0, LENT, &[]), packed(14, 0));
     assert_eq!(checked(&WORDS, &NUMBERS, &POINT, f64::INFINITY, LENT, &[]), packed(15, 2));
     assert_eq!(checked(&WORDS, &NUMBERS, &[0.0, 1.0, 1.5, 0.25], 10.75, LENT, &[]), packed(16, 1));
+    assert_eq!(checked_within(&[0.5; 8], &WORDS, &NUMBERS, &[0.0, 1.0, 1.5, 0.25], 10.75, LENT, &[0.5, 0.0]), 0);
+    assert_eq!(checked_within(&[1e-6; 9], &WORDS, &NUMBERS, &POINT, 8.0, LENT, &[]), packed(20, 0));
+    assert_eq!(checked_within(&nans(8), &WORDS, &NUMBERS, &POINT, 8.0, LENT, &[]), packed(20, 1));
 }
 
 const GUARD: u32 = 0xfedc_ba98;

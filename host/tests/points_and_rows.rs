@@ -3,7 +3,7 @@
 mod depot;
 
 use depot::{crossed, refusal, CONSTANTS, FILE, INACTIVE, NUMBERS, WORDS};
-use fervoulk::{check, find_row, same, Accepted, Kind, Outputs, Refused, Residuals};
+use fervoulk::{find_row, same, Accepted, Kind, Outputs, Refused, Residuals, Tolerances};
 
 const POINT: [f64; 4] = [0.0, 1.0, 1.0, 0.25];
 
@@ -30,6 +30,32 @@ fn accepted(residuals: Residuals) -> Answer {
 }
 
 // ---- check
+
+/// With the Rust's tolerances.
+fn check(words: &[u32], numbers: &[f64], point: &[f64], solver_objective: f64) -> Answer {
+    fervoulk::check(words, numbers, point, solver_objective, &Tolerances::default())
+}
+
+/// Document 02 (c): each residual has its own tolerance, and one that is not finite or below 0 is refused after the network and before the
+/// point.
+#[test]
+fn tolerances() {
+    let strong = [0.0, 1.0, 1.5, 0.25];
+    let within = |tolerances: &Tolerances| fervoulk::check(&WORDS, &NUMBERS, &strong, 10.75, tolerances);
+    let primal = Tolerances::default();
+    let residuals = Residuals { active_balance: 0.5, ..NONE };
+    let at = within(&Tolerances { active_balance: 0.5, ..primal }).expect("a residual equal to its tolerance");
+    assert_eq!((at.objective, at.residuals), (10.75, residuals));
+    let below = Tolerances { active_balance: 0.5f64.next_down(), ..primal };
+    assert_eq!(within(&below), Err(Refused { refusal: refusal(Kind::Residual, 1), residuals: Some(residuals) }));
+    for wrong in [f64::NAN, f64::INFINITY, f64::NEG_INFINITY, -1.0, -f64::from_bits(1)] {
+        let own = Tolerances { reference_angles: wrong, objective: f64::NAN, ..primal };
+        assert_eq!(fervoulk::check(&WORDS, &NUMBERS, &[], f64::NAN, &own), refused(Kind::Tolerance, 4));
+        assert_eq!(fervoulk::check(&WORDS, &crossed(), &[], f64::NAN, &own), refused(Kind::Bounds, 2));
+    }
+    let zeros = Tolerances { active_balance: -0.0, objective: -0.0, ..primal };
+    assert_eq!(fervoulk::check(&WORDS, &NUMBERS, &POINT, 8.0, &zeros), accepted(NONE));
+}
 
 #[test]
 fn points() {

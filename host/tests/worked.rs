@@ -1,5 +1,5 @@
-//! The worked cases of document 02 that ask for a network's refusal or for compile's answer: worked/cases.txt, which tests/worked/cases.py
-//! writes and explains.
+//! The worked cases of document 02 that ask for a network's refusal, compile's answer or the check's: worked/cases.txt, which
+//! tests/worked/cases.py writes and explains.
 
 #[allow(dead_code)]
 #[path = "../src/boundary/mod.rs"]
@@ -9,7 +9,7 @@ mod lent;
 use boundary::compile::{
     fervoulk_columns, fervoulk_constants, fervoulk_objective_constant, fervoulk_rows, fervoulk_shared, fervoulk_words,
 };
-use boundary::validate::{fervoulk_check, fervoulk_outputs, fervoulk_residuals};
+use boundary::validate::{fervoulk_check, fervoulk_objective, fervoulk_outputs, fervoulk_residual, fervoulk_residuals};
 // brings the archives in
 use fervoulk as _;
 use lent::{compile_into, packed};
@@ -41,10 +41,13 @@ impl Case<'_> {
         Some(self.fields.get(field)?.split(' ').map(|item| item.parse().expect("a number")).collect())
     }
 
+    fn numbers(&self, field: &str) -> Vec<f64> {
+        self.patterns(field).expect("numbers").into_iter().map(f64::from_bits).collect()
+    }
+
     fn tables(&self) -> (Vec<u32>, Vec<f64>) {
         let words = self.patterns("given_words").expect("words");
-        let numbers = self.patterns("given_numbers").expect("numbers");
-        (words.iter().map(|&word| word as u32).collect(), numbers.into_iter().map(f64::from_bits).collect())
+        (words.iter().map(|&word| word as u32).collect(), self.numbers("given_numbers"))
     }
 
     /// Number and place as the C boundary packs them; of a case that names no place it is 0, as where nothing is refused.
@@ -79,7 +82,7 @@ fn network(case: &Case) {
     // With no point, 13 follows where the network is not refused.
     let point = if refused { case.packed() } else { packed(13, n as u64) };
     let mut outputs = vec![0.0; fervoulk_outputs(&words, &numbers)];
-    assert_eq!(fervoulk_check(&words, &numbers, &[], 0.0, &mut outputs), point, "{}", case.name);
+    assert_eq!(fervoulk_check(&words, &numbers, &[], 0.0, &[1e-6; 8], &mut outputs), point, "{}", case.name);
     assert_eq!(fervoulk_residuals(&words, &numbers, &[], 0.0, &mut [0.0; 9]), point, "{}", case.name);
 }
 
@@ -108,6 +111,31 @@ fn compile(case: &Case) {
     }
 }
 
+/// The fields that the case names, by bits; nothing is written exactly where it expects no outputs.
+fn check(case: &Case) {
+    const HELD: f64 = -7.5;
+    let (words, numbers) = case.tables();
+    let (point, tolerances) = (case.numbers("given_point"), case.numbers("given_tolerances"));
+    let solver = case.numbers("given_solver")[0];
+    let before = vec![HELD; case.decimals("given_output_length").expect("a length")[0]];
+    let mut outputs = before.clone();
+    assert_eq!(fervoulk_check(&words, &numbers, &point, solver, &tolerances, &mut outputs), case.packed(), "{}", case.name);
+    let written = case.patterns("outputs").unwrap_or_default();
+    if case.packed() != 0 || case.fields.contains_key("outputs") {
+        let front: Vec<u64> = outputs[..written.len()].iter().map(|x| x.to_bits()).collect();
+        assert_eq!(front, written, "{}", case.name);
+        assert_eq!(outputs[written.len()..], before[written.len()..], "{}", case.name);
+    }
+    if let Some(expected) = case.patterns("objective") {
+        let objective = fervoulk_objective(&words, &numbers, &point, solver, &tolerances, &mut outputs);
+        assert_eq!(objective.to_bits(), expected[0], "{}", case.name);
+    }
+    if let Some(expected) = case.patterns("residuals") {
+        let residual = |i| fervoulk_residual(&words, &numbers, &point, solver, &tolerances, &mut outputs, i).to_bits();
+        assert_eq!((0..8).map(residual).collect::<Vec<u64>>(), expected, "{}", case.name);
+    }
+}
+
 #[test]
 fn worked_cases() {
     let cases = cases();
@@ -116,6 +144,7 @@ fn worked_cases() {
         match case.call {
             "network" => network(case),
             "compile" => compile(case),
+            "check" => check(case),
             other => panic!("{}: a case of {other}", case.name),
         }
     }

@@ -67,6 +67,9 @@ static const double model_constants[] = {-1, -0.0, -0.25, 0, 1, 3};
 
 static const double point[] = {0, 1, 1, 0.25};
 
+/* eight tolerances as in the Rust */
+static const double primal[FERVOULK_RESIDUALS] = {1e-6, 1e-6, 1e-6, 1e-6, 1e-6, 1e-6, 1e-6, 1e-6};
+
 /* ---- the helpers of the header */
 
 static void test_answers(void) {
@@ -80,6 +83,8 @@ static void test_answers(void) {
     /* a refusal without a word, and a number that is none's */
     EXPECT(strcmp(fervoulk_word(FERVOULK_VALUE), "") == 0);
     EXPECT(strcmp(fervoulk_word(UINT32_MAX), "") == 0);
+    EXPECT(strcmp(fervoulk_word(FERVOULK_TOLERANCE), "tolerance") == 0);
+    EXPECT(strcmp(fervoulk_word(FERVOULK_TOLERANCE + 1), "") == 0);
 }
 
 /* ---- the guard values */
@@ -218,31 +223,40 @@ static void test_row_values_lists(void) {
 
 /* ---- the check */
 
-/* a point's answer by all three functions, with 9 numbers lent of which an accepted point writes 2 */
-static void expect_check(
-    const uint32_t *w, const double *x, const double *p, size_t columns, double solver, uint32_t number, uint32_t place,
-    double objective, size_t residual, double violation, int line) {
+/* a point's answer by all three functions with these tolerances, and 9 numbers lent of which an accepted point writes 2 */
+static void expect_check_within(
+    const double *tolerances, size_t count, const uint32_t *w, const double *x, const double *p, size_t columns, double solver,
+    uint32_t number, uint32_t place, double objective, size_t residual, double violation, int line) {
     double outputs[9], after[9];
     for (size_t call = 0; call < 11; call++) {
         fill_nans(LIST(outputs), 16 * call);
         fill_nans(LIST(after), 16 * call);
         if (number == 0) {
-            after[0] = 0;
+            /* with no branch a bus's injection is its balance */
+            after[0] = residual == FERVOULK_ACTIVE_BALANCE ? violation : 0;
             after[1] = 0;
         }
         if (call == 0) {
-            const uint64_t answer = fervoulk_check(w, 4, x, 17, p, columns, solver, LIST(outputs));
+            const uint64_t answer = fervoulk_check(w, 4, x, 17, p, columns, solver, tolerances, count, LIST(outputs));
             expect(refused(answer, number, place), "fervoulk_check", line);
         } else if (call == 1) {
-            expect(same_bits(fervoulk_objective(w, 4, x, 17, p, columns, solver, LIST(outputs)), objective), "fervoulk_objective", line);
+            const double own = fervoulk_objective(w, 4, x, 17, p, columns, solver, tolerances, count, LIST(outputs));
+            expect(same_bits(own, objective), "fervoulk_objective", line);
         } else {
             const size_t i = call - 2;
-            const double is = fervoulk_residual(w, 4, x, 17, p, columns, solver, LIST(outputs), i);
+            const double is = fervoulk_residual(w, 4, x, 17, p, columns, solver, tolerances, count, LIST(outputs), i);
             expect(same_bits(is, i == residual ? violation : 0), "fervoulk_residual", line);
         }
         expect(same_list(outputs, after, 2), "the two outputs", line);
         expect(same_list(outputs + 2, after + 2, LENGTH(after) - 2), "behind the outputs", line);
     }
+}
+
+/* the same with the Rust's tolerances */
+static void expect_check(
+    const uint32_t *w, const double *x, const double *p, size_t columns, double solver, uint32_t number, uint32_t place,
+    double objective, size_t residual, double violation, int line) {
+    expect_check_within(LIST(primal), w, x, p, columns, solver, number, place, objective, residual, violation, line);
 }
 
 static void test_check(void) {
@@ -257,6 +271,44 @@ static void test_check(void) {
     expect_check(words, numbers, point, 4, INFINITY, FERVOULK_DERIVED, 2, 0, 0, 0, __LINE__);
     expect_check(words, crossed, point, 4, 8, FERVOULK_BOUNDS, 2, 0, 0, 0, __LINE__);
     expect_check(inactive, crossed, point, 4, 8, 0, 0, 8, 0, 0, __LINE__);
+}
+
+/* tolerances of the caller's own */
+static void test_tolerances(void) {
+    const double strong[] = {0, 1, 1.5, 0.25};
+    /* half a unit too much is generated, and the reference is off by as much */
+    const double turned[] = {0.5, 1, 1.5, 0.25};
+    double own[FERVOULK_RESIDUALS + 1];
+    memcpy(own, primal, sizeof primal);
+    own[FERVOULK_RESIDUALS] = NAN;
+    /* equal passes, one double less refuses */
+    own[FERVOULK_ACTIVE_BALANCE] = 0.5;
+    expect_check_within(own, 8, words, numbers, strong, 4, 10.75, 0, 0, 10.75, 0, 0.5, __LINE__);
+    own[FERVOULK_ACTIVE_BALANCE] = nextafter(0.5, 0);
+    expect_check_within(own, 8, words, numbers, strong, 4, 10.75, FERVOULK_RESIDUAL, 1, 0, 0, 0.5, __LINE__);
+    /* each residual has its own: a wide one for the balance moves the place to the reference angle */
+    own[FERVOULK_ACTIVE_BALANCE] = 1;
+    double outputs[2];
+    EXPECT(refused(fervoulk_check(NETWORK, LIST(turned), 10.75, own, 8, LIST(outputs)), FERVOULK_RESIDUAL, 4));
+    /* zeros of either sign are tolerances, and the start is exact */
+    const double zeros[FERVOULK_RESIDUALS] = {0, -0.0, 0, -0.0, 0, -0.0, 0, -0.0};
+    expect_check_within(zeros, 8, words, numbers, point, 4, 8, 0, 0, 8, 0, 0, __LINE__);
+    /* a length other than eight, before any number is looked at; then the first that is not finite or below 0; 20 before 13 and 15 */
+    expect_check_within(own, 9, words, numbers, point, 4, 8, FERVOULK_TOLERANCE, 0, 0, 0, 0, __LINE__);
+    expect_check_within(own, 7, words, numbers, point, 4, 8, FERVOULK_TOLERANCE, 0, 0, 0, 0, __LINE__);
+    expect_check_within(NULL, 0, words, numbers, point, 3, INFINITY, FERVOULK_TOLERANCE, 0, 0, 0, 0, __LINE__);
+    static const double wrongs[] = {NAN, INFINITY, -INFINITY, -1, -0x1p-1074};
+    for (size_t i = 0; i < FERVOULK_RESIDUALS; i++) {
+        for (size_t j = 0; j < LENGTH(wrongs); j++) {
+            memcpy(own, primal, sizeof primal);
+            own[i] = wrongs[j];
+            own[7] = i < 7 ? NAN : wrongs[j];
+            expect_check_within(own, 8, words, numbers, point, 3, INFINITY, FERVOULK_TOLERANCE, (uint32_t)i + 1, 0, 0, 0, __LINE__);
+        }
+    }
+    /* 12 and the network's refusals come first */
+    EXPECT(refused(fervoulk_check(NETWORK, LIST(point), 8, NULL, 0, outputs, 1), FERVOULK_SHORT, 1));
+    expect_check_within(NULL, 0, words, crossed, point, 4, 8, FERVOULK_BOUNDS, 2, 0, 0, 0, __LINE__);
 }
 
 /* the residuals and the objective by one run, with 10 numbers lent of which 9 are written */
@@ -312,16 +364,16 @@ static void test_check_lists(void) {
     double outputs[8], before[8];
     fill_nans(LIST(outputs), 0);
     fill_nans(LIST(before), 0);
-    EXPECT(refused(fervoulk_check(NETWORK, LIST(point), 8, outputs, 1), FERVOULK_SHORT, 1));
-    EXPECT(refused(fervoulk_check(NETWORK, LIST(point), 8, NULL, 0), FERVOULK_SHORT, 1));
-    EXPECT(refused(fervoulk_check(NETWORK, NULL, 0, 8, LIST(outputs)), FERVOULK_POINT, 4));
-    EXPECT(refused(fervoulk_check(LIST(words), NULL, 0, LIST(point), 8, LIST(outputs)), FERVOULK_COUNT, 17));
-    EXPECT(refused(fervoulk_check(NULL, 0, LIST(numbers), LIST(point), 8, LIST(outputs)), FERVOULK_WORDS, 0));
-    EXPECT(refused(fervoulk_check(NULL, 0, NULL, 0, NULL, 0, 8, NULL, 0), FERVOULK_WORDS, 0));
-    EXPECT(same_bits(fervoulk_objective(NULL, 0, NULL, 0, NULL, 0, 8, NULL, 0), 0));
-    EXPECT(same_bits(fervoulk_residual(NULL, 0, NULL, 0, NULL, 0, 8, NULL, 0, 0), 0));
+    EXPECT(refused(fervoulk_check(NETWORK, LIST(point), 8, LIST(primal), outputs, 1), FERVOULK_SHORT, 1));
+    EXPECT(refused(fervoulk_check(NETWORK, LIST(point), 8, LIST(primal), NULL, 0), FERVOULK_SHORT, 1));
+    EXPECT(refused(fervoulk_check(NETWORK, NULL, 0, 8, LIST(primal), LIST(outputs)), FERVOULK_POINT, 4));
+    EXPECT(refused(fervoulk_check(LIST(words), NULL, 0, LIST(point), 8, LIST(primal), LIST(outputs)), FERVOULK_COUNT, 17));
+    EXPECT(refused(fervoulk_check(NULL, 0, LIST(numbers), LIST(point), 8, LIST(primal), LIST(outputs)), FERVOULK_WORDS, 0));
+    EXPECT(refused(fervoulk_check(NULL, 0, NULL, 0, NULL, 0, 8, NULL, 0, NULL, 0), FERVOULK_WORDS, 0));
+    EXPECT(same_bits(fervoulk_objective(NULL, 0, NULL, 0, NULL, 0, 8, NULL, 0, NULL, 0), 0));
+    EXPECT(same_bits(fervoulk_residual(NULL, 0, NULL, 0, NULL, 0, 8, NULL, 0, NULL, 0, 0), 0));
     EXPECT(same_list(outputs, before, LENGTH(before)));
-    EXPECT(same_bits(fervoulk_residual(NETWORK, LIST(point), 8, LIST(outputs), SIZE_MAX), 0));
+    EXPECT(same_bits(fervoulk_residual(NETWORK, LIST(point), 8, LIST(primal), LIST(outputs), SIZE_MAX), 0));
     EXPECT(same_bits(outputs[0], 0) && same_bits(outputs[1], 0));
     EXPECT(same_list(outputs + 2, before + 2, LENGTH(before) - 2));
 }
@@ -452,6 +504,7 @@ int main(void) {
     test_row_values();
     test_row_values_lists();
     test_check();
+    test_tolerances();
     test_outputs();
     test_residuals();
     test_check_lists();

@@ -26,14 +26,12 @@ use Rattle.lists.proofs.NonFinite.{non-finite-clear}
 use Rattle.accepted.proofs.Largest.{largest-law, largestWhere-law}
 use Rattle.accepted.specs.Accepted.{NotAbove, Accepted}
 use Rattle.validate.specs.declared.Checked.{Checked}
-use Rattle.validate.specs.Check.{tiny64, tolerances, Solved, solved, faultOutput, faultPoint, faultSwing, faultDerived, faultResidual, faultOf, checkFault, checked}
-use Rattle.validate.proofs.Order.{check-is}
+use Rattle.validate.specs.Tolerances.{faultTolerance, faultResidual}
+use Rattle.validate.specs.Check.{Solved, solved, faultOutput, faultPoint, faultSwing, faultDerived, faultOf, checkFault, checked}
+use Rattle.validate.proofs.Tolerances.{right-tolerance, eight-given, each-right, right-clear, none-above, above-none}
+use Rattle.validate.proofs.Order.{check-is, check-proper}
 use Rattle.derived.specs.Outputs.{ownObjective, flows, outputs}
 use Rattle.residuals.specs.Residuals.{activeBalance, reactiveBalance, thermalLimits, variableBounds, referenceAngles, angleLimits, epigraphs, objectiveDifference, residuals}
-
-pub zero-within : NotAbove zero64
-unfolding lt ofBits
-zero-within = refl
 
 -- the two answers of `checked`
 one-of-two : (n : ℕ) (r s : Checked) → r .fault .number ≡ 0 → s .fault .number ≡ n → cond (eqb n 0) r s .fault .number ≡ n
@@ -48,17 +46,6 @@ one-of-two n r s hr hs = go (eqb n 0) refl
 module _ (ws : List ℕ) (xs x : List Float) (solver : Float) where
   abbrev S : Solved
   S = solved ws xs x solver
-
-  residual-within : Clear (faultResidual ws xs x solver S) → (i : ℕ) → i < 8 → lt (getD tolerances i nan) (getD (S .residuals) i nan) ≡ false
-  unfolding faultResidual
-  residual-within c i l = not-true (lt (getD tolerances i nan) (getD (S .residuals) i nan)) (unless-true _ 16 _ (omega arith) (first-clear 8 _ c i l))
-
-  within-residual : Every (λ i v. lt (getD tolerances i nan) v ≡ false) 0 (S .residuals) → Clear (faultResidual ws xs x solver S)
-  unfolding faultResidual solved residuals
-  within-residual h =
-      all-clear 8 _ (λ i l.
-      let k : lt (getD tolerances i nan) (getD (S .residuals) i nan) ≡ false = rw zero-add at (all-at (λ i v. lt (getD tolerances i nan) v ≡ false) 0 (S .residuals) (h .all) i nan l) in
-      ap (λ y. y .number) (unless-clear (not (lt (getD tolerances i nan) (getD (S .residuals) i nan))) _ (ap not k)))
 
   -- 15 looks at the outputs, the solver's objective and the own one, and at nothing else
   pub derived-exactly : Clear (faultDerived ws xs x solver (solved ws xs x solver))
@@ -80,94 +67,100 @@ module _ (ws : List ℕ) (xs x : List Float) (solver : Float) where
   unfolding faultDerived firstNonFinite
   balance-never-15 h p q = first-proper _ _ (λ i. unless-proper _ 15 i (omega arith)) (derived-exactly .1 (h, p, q))
 
-  check-proper : (lent : ℕ) → Proper (checkFault ws xs x solver lent)
-  unfolding faultResidual
-  check-proper lent =
-      rw (check-is ws xs x solver lent) (or-proper _ _ (or-proper _ _ (or-proper _ _ (or-proper _ _ (or-proper _ _ (first-proper _ _ (λ i. unless-proper _ 16 _ (omega arith))))))))
+  module _ (ts : List Float) where
+    within-residual : Every (λ i v. lt (getD ts i nan) v ≡ false) 0 (S .residuals) → Clear (faultResidual ts (S .residuals))
+    unfolding solved residuals
+    within-residual h =
+        above-none _ _ (λ i l. rw zero-add at (all-at (λ i v. lt (getD ts i nan) v ≡ false) 0 (S .residuals) (h .all) i nan l))
 
-  module _ (lent : ℕ) where
-    pub accepted-means : checkFault ws xs x solver lent ≡ clear → Accepted ws xs x solver lent
-    unfolding faultOutput faultPoint pointFault faultSwing solved residuals tolerances activeBalance reactiveBalance variableBounds referenceAngles angleLimits thermalLimits epigraphs objectiveDifference
-    accepted-means e =
-        let c = ap (λ f. f .number) (sym (check-is ws xs x solver lent) ∙ e) in
-        let network = or-left (networkFault ws xs) _ c in
-        let c1 = or-right (networkFault ws xs) _ c in
-        let room = or-left (faultOutput ws xs x solver lent) _ c1 in
-        let c2 = or-right (faultOutput ws xs x solver lent) _ c1 in
-        let point = or-left (faultPoint ws xs x solver) _ c2 in
-        let c3 = or-right (faultPoint ws xs x solver) _ c2 in
-        let swing = or-left (faultSwing ws xs x solver) _ c3 in
-        let c4 = or-right (faultSwing ws xs x solver) _ c3 in
-        let derived = or-left (faultDerived ws xs x solver S) _ c4 in
-        let w = residual-within (or-right (faultDerived ws xs x solver S) _ c4) in
-        let d = derived-exactly .0 derived in
-        record {
-          sound = record {
-            network = network-proper ws xs network;
-            room = leb-true _ _ (unless-true _ 12 1 (omega arith) room);
-            columns-given = eqb-true _ _ (unless-true _ 13 (columns ws) (omega arith) (or-left _ _ point));
-            point-finite = non-finite-clear 13 x (omega arith) .0 (or-right _ _ point);
-            angles = λ i l. unless-true _ 14 i (omega arith) (first-clear (buses ws) _ swing i l);
-            outputs-finite = d .0;
-            solver-finite = d .1;
-            own-finite = d .2;
-          };
-          active = largest-law tiny64 zero-within (buses ws) _ .0 (w 0 (omega arith));
-          reactive = largest-law tiny64 zero-within (buses ws) _ .0 (w 1 (omega arith));
-          bounds = largest-law tiny64 zero-within (columns ws) _ .0 (w 2 (omega arith));
-          reference = largest-law tiny64 zero-within (references ws) _ .0 (w 3 (omega arith));
-          angle = largestWhere-law tiny64 zero-within (branches ws) _ _ .0 (w 4 (omega arith));
-          rating = largestWhere-law tiny64 zero-within (branches ws) _ _ .0 (w 5 (omega arith));
-          curve = largestWhere-law tiny64 zero-within (generators ws) _ _ .0 (w 6 (omega arith));
-          objective = w 7 (omega arith);
-        }
+    module _ (lent : ℕ) where
+      pub accepted-means : checkFault ws xs x solver ts lent ≡ clear → Accepted ws xs x solver ts lent
+      unfolding faultOutput faultPoint pointFault faultSwing solved residuals activeBalance reactiveBalance variableBounds referenceAngles angleLimits thermalLimits epigraphs objectiveDifference
+      accepted-means e =
+          let c = ap (λ f. f .number) (sym (check-is ws xs x solver ts lent) ∙ e) in
+          let network = or-left (networkFault ws xs) _ c in
+          let c1 = or-right (networkFault ws xs) _ c in
+          let room = or-left (faultOutput ws xs x solver lent) _ c1 in
+          let c1′ = or-right (faultOutput ws xs x solver lent) _ c1 in
+          let tolerances = or-left (faultTolerance ts) _ c1′ in
+          let c2 = or-right (faultTolerance ts) _ c1′ in
+          let z : (i : ℕ) → i < 8 → lt (getD ts i nan) zero64 ≡ false = λ i l. right-tolerance _ (each-right ts tolerances i l) .1 in
+          let point = or-left (faultPoint ws xs x solver) _ c2 in
+          let c3 = or-right (faultPoint ws xs x solver) _ c2 in
+          let swing = or-left (faultSwing ws xs x solver) _ c3 in
+          let c4 = or-right (faultSwing ws xs x solver) _ c3 in
+          let derived = or-left (faultDerived ws xs x solver S) _ c4 in
+          let w = none-above _ _ (or-right (faultDerived ws xs x solver S) _ c4) in
+          let d = derived-exactly .0 derived in
+          record {
+            sound = record {
+              network = network-proper ws xs network;
+              room = leb-true _ _ (unless-true _ 12 1 (omega arith) room);
+              tolerances-given = eight-given ts tolerances;
+              tolerances-right = each-right ts tolerances;
+              columns-given = eqb-true _ _ (unless-true _ 13 (columns ws) (omega arith) (or-left _ _ point));
+              point-finite = non-finite-clear 13 x (omega arith) .0 (or-right _ _ point);
+              angles = λ i l. unless-true _ 14 i (omega arith) (first-clear (buses ws) _ swing i l);
+              outputs-finite = d .0;
+              solver-finite = d .1;
+              own-finite = d .2;
+            };
+            active = largest-law (getD ts 0 nan) (z 0 (omega arith)) (buses ws) _ .0 (w 0 (omega arith));
+            reactive = largest-law (getD ts 1 nan) (z 1 (omega arith)) (buses ws) _ .0 (w 1 (omega arith));
+            bounds = largest-law (getD ts 2 nan) (z 2 (omega arith)) (columns ws) _ .0 (w 2 (omega arith));
+            reference = largest-law (getD ts 3 nan) (z 3 (omega arith)) (references ws) _ .0 (w 3 (omega arith));
+            angle = largestWhere-law (getD ts 4 nan) (z 4 (omega arith)) (branches ws) _ _ .0 (w 4 (omega arith));
+            rating = largestWhere-law (getD ts 5 nan) (z 5 (omega arith)) (branches ws) _ _ .0 (w 5 (omega arith));
+            curve = largestWhere-law (getD ts 6 nan) (z 6 (omega arith)) (generators ws) _ _ .0 (w 6 (omega arith));
+            objective = w 7 (omega arith);
+          }
 
-    means-accepted : Accepted ws xs x solver lent → Clear (checkFault ws xs x solver lent)
-    unfolding faultOutput faultPoint pointFault faultSwing solved residuals tolerances activeBalance reactiveBalance variableBounds referenceAngles angleLimits thermalLimits epigraphs objectiveDifference
-    means-accepted a =
-        ap (λ f. f .number) (check-is ws xs x solver lent) ∙
-        or-clear (networkFault ws xs) _ (ap (λ f. f .number) (a .sound .network))
-        (or-clear (faultOutput ws xs x solver lent) _ (test _ _ (le-leb _ _ (a .sound .room)))
-        (or-clear (faultPoint ws xs x solver) _ (or-clear (unless (eqb (length x) (columns ws)) (fault 13 (columns ws))) (firstNonFinite 13 x) (test _ _ (eq-eqb _ _ (a .sound .columns-given))) (non-finite-clear 13 x (omega arith) .1 (a .sound .point-finite)))
-        (or-clear (faultSwing ws xs x solver) _ (all-clear (buses ws) _ (λ i l. test _ _ (a .sound .angles i l)))
-        (or-clear (faultDerived ws xs x solver S) _ (derived-exactly .1 (a .sound .outputs-finite, a .sound .solver-finite, a .sound .own-finite))
-        (within-residual (
-        every-cons (largest-law tiny64 zero-within (buses ws) _ .1 (a .active))
-        (every-cons (largest-law tiny64 zero-within (buses ws) _ .1 (a .reactive))
-        (every-cons (largest-law tiny64 zero-within (columns ws) _ .1 (a .bounds))
-        (every-cons (largest-law tiny64 zero-within (references ws) _ .1 (a .reference))
-        (every-cons (largestWhere-law tiny64 zero-within (branches ws) _ _ .1 (a .angle))
-        (every-cons (largestWhere-law tiny64 zero-within (branches ws) _ _ .1 (a .rating))
-        (every-cons (largestWhere-law tiny64 zero-within (generators ws) _ _ .1 (a .curve))
-        (every-cons (a .objective) every-nil)))))))))))))
-      where
-        test : (b : Bool) (f : Fault) → b ≡ true → Clear (unless b f)
-        test b f h = ap (λ y. y .number) (unless-clear b f h)
+      means-accepted : Accepted ws xs x solver ts lent → Clear (checkFault ws xs x solver ts lent)
+      unfolding faultOutput faultPoint pointFault faultSwing solved residuals activeBalance reactiveBalance variableBounds referenceAngles angleLimits thermalLimits epigraphs objectiveDifference
+      means-accepted a =
+          let z : (i : ℕ) → i < 8 → lt (getD ts i nan) zero64 ≡ false = λ i l. right-tolerance _ (a .sound .tolerances-right i l) .1 in
+          ap (λ f. f .number) (check-is ws xs x solver ts lent) ∙
+          or-clear (networkFault ws xs) _ (ap (λ f. f .number) (a .sound .network))
+          (or-clear (faultOutput ws xs x solver lent) _ (test _ _ (le-leb _ _ (a .sound .room)))
+          (or-clear (faultTolerance ts) _ (right-clear ts (a .sound .tolerances-given) (a .sound .tolerances-right))
+          (or-clear (faultPoint ws xs x solver) _ (or-clear (unless (eqb (length x) (columns ws)) (fault 13 (columns ws))) (firstNonFinite 13 x) (test _ _ (eq-eqb _ _ (a .sound .columns-given))) (non-finite-clear 13 x (omega arith) .1 (a .sound .point-finite)))
+          (or-clear (faultSwing ws xs x solver) _ (all-clear (buses ws) _ (λ i l. test _ _ (a .sound .angles i l)))
+          (or-clear (faultDerived ws xs x solver S) _ (derived-exactly .1 (a .sound .outputs-finite, a .sound .solver-finite, a .sound .own-finite))
+          (within-residual (
+          every-cons (largest-law (getD ts 0 nan) (z 0 (omega arith)) (buses ws) _ .1 (a .active))
+          (every-cons (largest-law (getD ts 1 nan) (z 1 (omega arith)) (buses ws) _ .1 (a .reactive))
+          (every-cons (largest-law (getD ts 2 nan) (z 2 (omega arith)) (columns ws) _ .1 (a .bounds))
+          (every-cons (largest-law (getD ts 3 nan) (z 3 (omega arith)) (references ws) _ .1 (a .reference))
+          (every-cons (largestWhere-law (getD ts 4 nan) (z 4 (omega arith)) (branches ws) _ _ .1 (a .angle))
+          (every-cons (largestWhere-law (getD ts 5 nan) (z 5 (omega arith)) (branches ws) _ _ .1 (a .rating))
+          (every-cons (largestWhere-law (getD ts 6 nan) (z 6 (omega arith)) (generators ws) _ _ .1 (a .curve))
+          (every-cons (a .objective) every-nil))))))))))))))
+        where
+          test : (b : Bool) (f : Fault) → b ≡ true → Clear (unless b f)
+          test b f h = ap (λ y. y .number) (unless-clear b f h)
 
-    -- nothing is refused exactly where all of it holds
-    pub accepted-exactly : (checkFault ws xs x solver lent ≡ clear) ↔ Accepted ws xs x solver lent
-    accepted-exactly = (accepted-means, λ a. check-proper lent (means-accepted a))
+      -- nothing is refused exactly where all of it holds
+      pub accepted-exactly : (checkFault ws xs x solver ts lent ≡ clear) ↔ Accepted ws xs x solver ts lent
+      accepted-exactly = (accepted-means, λ a. check-proper ws xs x solver ts lent (means-accepted a))
 
-    -- the answer's number is the refusal's
-    answer-number : checked ws xs x solver lent .fault .number ≡ checkFault ws xs x solver lent .number
-    unfolding checked checkFault
-    answer-number = one-of-two (faultOf ws xs x solver lent S .number) _ _ refl refl
+      -- the answer's number is the refusal's
+      answer-number : checked ws xs x solver ts lent .fault .number ≡ checkFault ws xs x solver ts lent .number
+      unfolding checked checkFault
+      answer-number = one-of-two (faultOf ws xs x solver ts lent S .number) _ _ refl refl
 
-    -- the answer is 0 exactly where all of it holds
-    pub answered-exactly : (checked ws xs x solver lent .fault .number ≡ 0) ↔ Accepted ws xs x solver lent
-    answered-exactly = (λ e. accepted-means (check-proper lent (sym answer-number ∙ e)), λ a. answer-number ∙ means-accepted a)
+      -- the answer is 0 exactly where all of it holds
+      pub answered-exactly : (checked ws xs x solver ts lent .fault .number ≡ 0) ↔ Accepted ws xs x solver ts lent
+      answered-exactly = (λ e. accepted-means (check-proper ws xs x solver ts lent (sym answer-number ∙ e)), λ a. answer-number ∙ means-accepted a)
 
--- the parts of a violation, and of what is cut off at 0
-pub within-maximum : (a b : Float) → NotAbove (maximum a b) ↔ (NotAbove a × NotAbove b)
-within-maximum a b = maximum-law tiny64 a b
+-- the parts of a violation, and of what is cut off at 0, for a tolerance t that is not below 0
+module _ (t : Float) (zero-not : lt t zero64 ≡ false) where
+  pub within-violation : (v lower upper : Float) → NotAbove t (positiveViolation v lower upper) ↔ (NotAbove t (lower ⊖ v) × NotAbove t (v ⊖ upper))
+  unfolding positiveViolation
+  within-violation v lower upper =
+      let m = maximum-law t (maximum (lower ⊖ v) zero64) (maximum (v ⊖ upper) zero64) in
+      let l = maximum-law t (lower ⊖ v) zero64 in
+      let u = maximum-law t (v ⊖ upper) zero64 in
+      (λ h. (l .0 (m .0 h .0) .0, u .0 (m .0 h .1) .0), λ h. m .1 (l .1 (h .0, zero-not), u .1 (h .1, zero-not)))
 
-pub within-violation : (v lower upper : Float) → NotAbove (positiveViolation v lower upper) ↔ (NotAbove (lower ⊖ v) × NotAbove (v ⊖ upper))
-unfolding positiveViolation
-within-violation v lower upper =
-    let m = maximum-law tiny64 (maximum (lower ⊖ v) zero64) (maximum (v ⊖ upper) zero64) in
-    let l = maximum-law tiny64 (lower ⊖ v) zero64 in
-    let u = maximum-law tiny64 (v ⊖ upper) zero64 in
-    (λ h. (l .0 (m .0 h .0) .0, u .0 (m .0 h .1) .0), λ h. m .1 (l .1 (h .0, zero-within), u .1 (h .1, zero-within)))
-
-pub within-cut : (a : Float) → NotAbove (maximum a zero64) ↔ NotAbove a
-within-cut a = let m = maximum-law tiny64 a zero64 in (λ h. m .0 h .0, λ h. m .1 (h, zero-within))
+  pub within-cut : (a : Float) → NotAbove t (maximum a zero64) ↔ NotAbove t a
+  within-cut a = let m = maximum-law t a zero64 in (λ h. m .0 h .0, λ h. m .1 (h, zero-not))

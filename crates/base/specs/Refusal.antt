@@ -1,4 +1,4 @@
--- Document 01, "Numbers a controller shows": each refusal's number by its word.
+-- Document 01, "Numbers a controller shows", and document 02: each refusal's number by its word.
 use Prim.Native.Nat.{ℕ}
 
 abbrev pub WORDS : ℕ
@@ -57,3 +57,6 @@ ROW = 18
 
 abbrev pub VALUE : ℕ
 VALUE = 19
+
+abbrev pub TOLERANCE : ℕ
+TOLERANCE = 20

@@ -43,3 +43,5 @@ pub const MODEL: u32 = 17;
 pub const ROW: u32 = 18;
 
 pub const VALUE: u32 = 19;
+
+pub const TOLERANCE: u32 = 20;

@@ -8,7 +8,6 @@ use lib.Dec.{T, lit≤}
 use lib.ListN.{length, getD}
 use lib.IntN.{_-ℤ_}
 use lib.Ieee.{Float, nan, inf, fin, binary64, fits, lt, le, eq, ofBits, sub, add, neg}
-use lib.Ieee.Bits.{ofBits-fits}
 use lib.Ieee.Fits.{sub-fits}
 use Rattle.base.specs.Fault.{packed}
 use Rattle.base.proofs.Loops.{Block, tally-counts}
@@ -31,27 +30,15 @@ use Rattle.acopf.proofs.Counts.{lower-columns, upper-columns}
 use Rattle.acopf.proofs.Right.{tables-clear, lower-finite, upper-finite}
 use Rattle.derived.specs.Outputs.{va, pg, epigraph, ownObjective, flows, pFrom, qFrom, pTo, qTo, outputs}
 use Rattle.derived.proofs.Outputs.{outputs-at}
-use Rattle.validate.specs.Check.{tiny64, tolerances, checked}
+use Rattle.validate.specs.Tolerances.{tiny64}
+use Rattle.validate.specs.Check.{checked}
+use Rattle.validate.proofs.Tolerances.{right-tolerance}
 use Rattle.accepted.specs.Accepted.{Sound, Kept}
 use Rattle.accepted.proofs.Kept.{flow-fits, answered-exactly-kept}
 use Rattle.accepted.proofs.Obeyed.{obeyed-exactly}
 use Rattle.exact.specs.Exactly.{UpTo, Rated, difference, exactDifference, KeptExactly, RatingsExact}
 use Rattle.exact.proofs.Fits.{lower-fits, upper-fits, p-balance-fits, q-balance-fits, curve-fits, own-fits}
 use Rattle.exact.proofs.Objective.{objective-within}
-
--- ---- the tolerance
-
-tiny-finite : isFinite tiny64 ≡ true
-unfolding isFinite ofBits
-tiny-finite = refl
-
-tiny-fits : T (fits binary64 tiny64)
-tiny-fits = ofBits-fits binary64 _
-
--- alone it is above 2^-1022
-tiny-large : 2 ^ 52 < size tiny64
-unfolding units ofBits
-tiny-large = lit≤ tt
 
 -- ---- between two finite bounds a number is finite
 
@@ -70,11 +57,14 @@ between (fin s m e) (fin w i h) (fin u n f) (fin v k g) ha hb ht l r = refl
 
 -- ---- the accepted point
 
-module _ (ws : List ℕ) (xs x : List Float) (solver : Float) (lent : ℕ) (D : Doubles xs) (P : Doubles x) (O : T (fits binary64 solver)) where
+module _ (ws : List ℕ) (xs x : List Float) (solver : Float) (ts : List Float) (lent : ℕ) (D : Doubles xs) (P : Doubles x) (O : T (fits binary64 solver)) (E : Doubles ts) where
   abbrev F : List (List Float)
   F = flows ws xs x
 
-  module _ (S : Sound ws xs x solver lent) (K : Kept ws xs x solver) where
+  module _ (S : Sound ws xs x solver ts lent) (K : Kept ws xs x solver ts) where
+    tolerance-finite : (i : ℕ) → i < 8 → isFinite (getD ts i nan) ≡ true
+    tolerance-finite i l = right-tolerance _ (S .tolerances-right i l) .0
+
     -- what stands in the outputs is finite
     block-finite : {k n : ℕ} {f : ℕ → Float} → Block (outputs ws xs x F) k n f → (j : ℕ) → j < n → isFinite (f j) ≡ true
     block-finite {k} B j l = ap isFinite (sym (B .its j nan l)) ∙ S .outputs-finite (k + j) (omega (arith, B .fits))
@@ -86,15 +76,15 @@ module _ (ws : List ℕ) (xs x : List Float) (solver : Float) (lent : ℕ) (D : 
     unfolding columns
     va-finite i l = column-finite i (omega arith)
 
-    lower-kept : (j : ℕ) → j < columns ws → UpTo (excess (getD (columnLower ws xs) j nan) (getD x j nan)) tiny64
+    lower-kept : (j : ℕ) → j < columns ws → UpTo (excess (getD (columnLower ws xs) j nan) (getD x j nan)) (getD ts 2 nan)
     lower-kept j l =
         let f = lower-finite ws xs (tables-clear ws xs (S .network)) j (omega (arith, lower-columns ws xs)) in
-        excess-within _ _ tiny64 (lower-fits ws xs D j l) (P j) tiny-fits f (column-finite j l) tiny-finite (K .lower j l)
+        excess-within _ _ (getD ts 2 nan) (lower-fits ws xs D j l) (P j) (E 2) f (column-finite j l) (tolerance-finite 2 (omega arith)) (K .lower j l)
 
-    upper-kept : (j : ℕ) → j < columns ws → UpTo (excess (getD x j nan) (getD (columnUpper ws xs) j nan)) tiny64
+    upper-kept : (j : ℕ) → j < columns ws → UpTo (excess (getD x j nan) (getD (columnUpper ws xs) j nan)) (getD ts 2 nan)
     upper-kept j l =
         let f = upper-finite ws xs (tables-clear ws xs (S .network)) j (omega (arith, upper-columns ws xs)) in
-        excess-within _ _ tiny64 (P j) (upper-fits ws xs D j l) tiny-fits (column-finite j l) f tiny-finite (K .upper j l)
+        excess-within _ _ (getD ts 2 nan) (P j) (upper-fits ws xs D j l) (E 2) (column-finite j l) f (tolerance-finite 2 (omega arith)) (K .upper j l)
 
     module _ (b : ℕ) (inside : b < branches ws) where
       module _ (on : angled ws b ≡ true) where
@@ -105,18 +95,18 @@ module _ (ws : List ℕ) (xs x : List Float) (solver : Float) (lent : ℕ) (D : 
         highest = upper-right _ _ (angle-right ws xs (tables-clear ws xs (S .network)) b inside on)
 
         difference-finite : isFinite (difference ws x b) ≡ true
-        difference-finite = between _ _ _ tiny64 lowest highest tiny-finite (K .angle-lower b inside on) (K .angle-upper b inside on)
+        difference-finite = between _ _ _ (getD ts 4 nan) lowest highest (tolerance-finite 4 (omega arith)) (K .angle-lower b inside on) (K .angle-upper b inside on)
 
-        angle-low : UpTo (excess (angleMin ws xs b) (difference ws x b)) tiny64
-        angle-low = excess-within _ _ tiny64 (D _) (sub-fits binary64 _ _) tiny-fits lowest difference-finite tiny-finite (K .angle-lower b inside on)
+        angle-low : UpTo (excess (angleMin ws xs b) (difference ws x b)) (getD ts 4 nan)
+        angle-low = excess-within _ _ (getD ts 4 nan) (D _) (sub-fits binary64 _ _) (E 4) lowest difference-finite (tolerance-finite 4 (omega arith)) (K .angle-lower b inside on)
 
-        angle-high : UpTo (excess (difference ws x b) (angleMax ws xs b)) tiny64
-        angle-high = excess-within _ _ tiny64 (sub-fits binary64 _ _) (D _) tiny-fits difference-finite highest tiny-finite (K .angle-upper b inside on)
+        angle-high : UpTo (excess (difference ws x b) (angleMax ws xs b)) (getD ts 4 nan)
+        angle-high = excess-within _ _ (getD ts 4 nan) (sub-fits binary64 _ _) (D _) (E 4) difference-finite highest (tolerance-finite 4 (omega arith)) (K .angle-upper b inside on)
 
-        angles-low : 2 ^ 53 * above (units (angleMin ws xs b) -ℤ exactDifference ws x b) ≤ (2 ^ 53 + 1) * size tiny64 + size (difference ws x b)
+        angles-low : 2 ^ 53 * above (units (angleMin ws xs b) -ℤ exactDifference ws x b) ≤ (2 ^ 53 + 1) * size (getD ts 4 nan) + size (difference ws x b)
         angles-low = above-exact (units (angleMin ws xs b)) (units (difference ws x b)) (exactDifference ws x b) _ _ (sub-within _ _ (P _) (P _) difference-finite) angle-low
 
-        angles-high : 2 ^ 53 * above (exactDifference ws x b -ℤ units (angleMax ws xs b)) ≤ (2 ^ 53 + 1) * size tiny64 + size (difference ws x b)
+        angles-high : 2 ^ 53 * above (exactDifference ws x b -ℤ units (angleMax ws xs b)) ≤ (2 ^ 53 + 1) * size (getD ts 4 nan) + size (difference ws x b)
         angles-high = below-exact (units (angleMax ws xs b)) (units (difference ws x b)) (exactDifference ws x b) _ _ (sub-within _ _ (P _) (P _) difference-finite) angle-high
 
       module _ (on : rated ws xs b ≡ true) where
@@ -124,40 +114,39 @@ module _ (ws : List ℕ) (xs x : List Float) (solver : Float) (lent : ℕ) (D : 
         finite-rating = upper-right zero64 (sMax ws xs b) (rating-right ws xs (tables-clear ws xs (S .network)) b inside (and-left (limited ws b) (lt zero64 (sMax ws xs b)) on))
 
         -- p and q at one end
-        end-rated : (p q : Float) → T (fits binary64 p) → T (fits binary64 q) → isFinite p ≡ true → isFinite q ≡ true → le (hypotenuse p q ⊖ sMax ws xs b) tiny64 ≡ true → Rated p q (sMax ws xs b) tiny64
+        end-rated : (p q : Float) → T (fits binary64 p) → T (fits binary64 q) → isFinite p ≡ true → isFinite q ≡ true → le (hypotenuse p q ⊖ sMax ws xs b) (getD ts 5 nan) ≡ true → Rated p q (sMax ws xs b) (getD ts 5 nan)
         end-rated p q fp fq hp hq l =
             let sign = above-signed (sMax ws xs b) (and-right (limited ws b) (lt zero64 (sMax ws xs b)) on) in
             record {
-              usual = hypot-within p q (sMax ws xs b) tiny64 fp fq (D _) tiny-fits hp hq finite-rating tiny-finite sign l;
-              least = hypot-within-unit p q (sMax ws xs b) tiny64 fp fq (D _) tiny-fits hp hq finite-rating tiny-finite sign l;
+              usual = hypot-within p q (sMax ws xs b) (getD ts 5 nan) fp fq (D _) (E 5) hp hq finite-rating (tolerance-finite 5 (omega arith)) sign l;
+              least = hypot-within-unit p q (sMax ws xs b) (getD ts 5 nan) fp fq (D _) (E 5) hp hq finite-rating (tolerance-finite 5 (omega arith)) sign l;
             }
 
-        from-rated : Rated (pFrom F b) (qFrom F b) (sMax ws xs b) tiny64
+        from-rated : Rated (pFrom F b) (qFrom F b) (sMax ws xs b) (getD ts 5 nan)
         from-rated =
             let B = outputs-at ws xs x F in
             let f = flow-fits ws xs x b inside in
             end-rated (pFrom F b) (qFrom F b) (f .p-from) (f .q-from) (block-finite (B .p-from) b inside) (block-finite (B .q-from) b inside) (K .rating-from b inside on)
 
-        to-rated : Rated (pTo F b) (qTo F b) (sMax ws xs b) tiny64
+        to-rated : Rated (pTo F b) (qTo F b) (sMax ws xs b) (getD ts 5 nan)
         to-rated =
             let B = outputs-at ws xs x F in
             let f = flow-fits ws xs x b inside in
             end-rated (pTo F b) (qTo F b) (f .p-to) (f .q-to) (block-finite (B .p-to) b inside) (block-finite (B .q-to) b inside) (K .rating-to b inside on)
 
-    curve-kept : (g : ℕ) → g < generators ws → curved ws g ≡ true → isFinite (curveValue ws xs g (pg ws x g)) ≡ true → UpTo (excess (curveValue ws xs g (pg ws x g)) (epigraph ws x g)) tiny64
+    curve-kept : (g : ℕ) → g < generators ws → curved ws g ≡ true → isFinite (curveValue ws xs g (pg ws x g)) ≡ true → UpTo (excess (curveValue ws xs g (pg ws x g)) (epigraph ws x g)) (getD ts 6 nan)
     unfolding columns epigraphsBefore
     curve-kept g l c f =
         let e = column-finite (epigraphColumn ws g) (omega (arith, tally-counts g (generators ws) (curved ws) c l)) in
-        excess-within _ _ tiny64 (curve-fits ws xs g (pg ws x g)) (P _) tiny-fits f e tiny-finite (K .curve g l c)
+        excess-within _ _ (getD ts 6 nan) (curve-fits ws xs g (pg ws x g)) (P _) (E 6) f e (tolerance-finite 6 (omega arith)) (K .curve g l c)
 
-    pub kept-exactly : KeptExactly ws xs x solver tolerances
-    unfolding tolerances
+    pub kept-exactly : KeptExactly ws xs x solver ts
     kept-exactly = record {
-      active = λ i l. at-most-units _ tiny64 (p-balance-fits ws xs x F i) tiny-fits tiny-finite (K .active i l) .1;
-      reactive = λ i l. at-most-units _ tiny64 (q-balance-fits ws xs x F i) tiny-fits tiny-finite (K .reactive i l) .1;
+      active = λ i l. at-most-units _ (getD ts 0 nan) (p-balance-fits ws xs x F i) (E 0) (tolerance-finite 0 (omega arith)) (K .active i l) .1;
+      reactive = λ i l. at-most-units _ (getD ts 1 nan) (q-balance-fits ws xs x F i) (E 1) (tolerance-finite 1 (omega arith)) (K .reactive i l) .1;
       lower = lower-kept;
       upper = upper-kept;
-      reference = λ r l. at-most-units _ tiny64 (P _) tiny-fits tiny-finite (K .reference r l) .1;
+      reference = λ r l. at-most-units _ (getD ts 3 nan) (P _) (E 3) (tolerance-finite 3 (omega arith)) (K .reference r l) .1;
       angle-lower = angle-low;
       angle-upper = angle-high;
       angles-lower = angles-low;
@@ -165,39 +154,44 @@ module _ (ws : List ℕ) (xs x : List Float) (solver : Float) (lent : ℕ) (D : 
       rating-from = from-rated;
       rating-to = to-rated;
       curve = curve-kept;
-      objective = objective-within solver (ownObjective ws xs x) tiny64 O (own-fits ws xs x) tiny-fits (S .own-finite) tiny-finite (K .objective);
+      objective = objective-within solver (ownObjective ws xs x) (getD ts 7 nan) O (own-fits ws xs x) (E 7) (S .own-finite) (tolerance-finite 7 (omega arith)) (K .objective);
     }
 
   -- ---- where the check answers 0
 
-  pub answered-keeps-exactly : checked ws xs x solver lent .fault .number ≡ 0 → KeptExactly ws xs x solver tolerances
-  answered-keeps-exactly z = let h = answered-exactly-kept ws xs x solver lent .0 z in kept-exactly (h .0) (h .1)
+  pub answered-keeps-exactly : checked ws xs x solver ts lent .fault .number ≡ 0 → KeptExactly ws xs x solver ts
+  answered-keeps-exactly z = let h = answered-exactly-kept ws xs x solver ts lent .0 z in kept-exactly (h .0) (h .1)
 
   -- and the one number that the check gives across the C boundary
-  pub obeyed-keeps-exactly : packed (checked ws xs x solver lent .fault) ≡ 0 → KeptExactly ws xs x solver tolerances
-  obeyed-keeps-exactly z = let h = obeyed-exactly ws xs x solver lent .0 z in kept-exactly (h .0) (h .1)
+  pub obeyed-keeps-exactly : packed (checked ws xs x solver ts lent .fault) ≡ 0 → KeptExactly ws xs x solver ts
+  obeyed-keeps-exactly z = let h = obeyed-exactly ws xs x solver ts lent .0 z in kept-exactly (h .0) (h .1)
 
--- ---- the ratings, with the table's tolerance
+-- ---- the ratings
 
-large : (s : ℕ) → 2 ^ 52 < s + size tiny64
-large s = let t = tiny-large in omega arith
+tiny-large : 2 ^ 52 < size tiny64
+unfolding units ofBits
+tiny-large = lit≤ tt
 
-module _ (ws : List ℕ) (xs x : List Float) (solver : Float) where
-  pub rating-exact : KeptExactly ws xs x solver tolerances → RatingsExact ws xs x tiny64
-  unfolding tolerances
-  rating-exact E b l on = (E .rating-from b l on .usual (large (size (sMax ws xs b))), E .rating-to b l on .usual (large (size (sMax ws xs b))))
+-- with a tolerance of 1e-6 any s_max will do
+pub primal-large : (s : ℕ) → 2 ^ 52 < s + size tiny64
+primal-large s = let t = tiny-large in omega arith
 
-  module _ (lent : ℕ) (D : Doubles xs) (P : Doubles x) (O : T (fits binary64 solver)) where
-    pub rating-answered : checked ws xs x solver lent .fault .number ≡ 0 → RatingsExact ws xs x tiny64
-    rating-answered z = rating-exact (answered-keeps-exactly ws xs x solver lent D P O z)
+module _ (ws : List ℕ) (xs x : List Float) (solver : Float) (ts : List Float) where
+  pub rating-exact : KeptExactly ws xs x solver ts → RatingsExact ws xs x (getD ts 5 nan)
+  rating-exact K b l on some = (K .rating-from b l on .usual some, K .rating-to b l on .usual some)
 
-    pub rating-obeyed : packed (checked ws xs x solver lent .fault) ≡ 0 → RatingsExact ws xs x tiny64
-    rating-obeyed z = rating-exact (obeyed-keeps-exactly ws xs x solver lent D P O z)
+  module _ (lent : ℕ) (D : Doubles xs) (P : Doubles x) (O : T (fits binary64 solver)) (E : Doubles ts) where
+    pub rating-answered : checked ws xs x solver ts lent .fault .number ≡ 0 → RatingsExact ws xs x (getD ts 5 nan)
+    rating-answered z = rating-exact (answered-keeps-exactly ws xs x solver ts lent D P O E z)
+
+    pub rating-obeyed : packed (checked ws xs x solver ts lent .fault) ≡ 0 → RatingsExact ws xs x (getD ts 5 nan)
+    rating-obeyed z = rating-exact (obeyed-keeps-exactly ws xs x solver ts lent D P O E z)
 
   -- of a call: the clauses of the contract of `fervoulk_check`, with r its answer and `before` the output list at entry, and that r is 0
   pub check-keeps-exactly : (r : ℕ) (before : List Float)
-      → r ≡ packed (checked ws xs x solver (length before) .fault)
-      → Doubles xs → Doubles x → T (fits binary64 solver) → r ≡ 0 → KeptExactly ws xs x solver tolerances × RatingsExact ws xs x tiny64
-  check-keeps-exactly r before is D P O z =
-      let E = obeyed-keeps-exactly ws xs x solver (length before) D P O (sym is ∙ z) in
-      (E, rating-exact E)
+      → r ≡ packed (checked ws xs x solver ts (length before) .fault)
+      → Doubles xs → Doubles x → T (fits binary64 solver) → Doubles ts → r ≡ 0
+      → KeptExactly ws xs x solver ts × RatingsExact ws xs x (getD ts 5 nan)
+  check-keeps-exactly r before is D P O E z =
+      let K = obeyed-keeps-exactly ws xs x solver ts (length before) D P O E (sym is ∙ z) in
+      (K, rating-exact K)

@@ -91,9 +91,9 @@ module _ (ws : List ℕ) (xs : List Float) (h : NoLongCurve ws) where
       }
 
   module _ (x : List Float) (solver : Float) where
-    check-same : (lent : ℕ) → checkBefore ws xs x solver lent ≡ checkFault ws xs x solver lent
+    check-same : (ts : List Float) (lent : ℕ) → checkBefore ws xs x solver ts lent ≡ checkFault ws xs x solver ts lent
     unfolding checkFault faultOf
-    check-same lent = refusals-same ws h _
+    check-same ts lent = refusals-same ws h _
 
     residuals-same : (lent : ℕ) → residualsBefore ws xs x solver lent ≡ residualsFault ws xs x solver lent
     unfolding residualsFault
@@ -103,8 +103,8 @@ module _ (ws : List ℕ) (xs : List Float) (h : NoLongCurve ws) where
     unfolding checked checkFault outputsNeeded
     check-as-before =
         record {
-          answer = λ lent. ap (λ f. validate.answered f (solved ws xs x solver)) (check-same lent);
-          outputs = λ before. ap (λ f. left f (solved ws xs x solver .outputs) before) (check-same (length before));
+          answer = λ ts lent. ap (λ f. validate.answered f (solved ws xs x solver)) (check-same ts lent);
+          outputs = λ ts before. ap (λ f. left f (solved ws xs x solver .outputs) before) (check-same ts (length before));
           residuals = residuals-same;
           report = λ before. ap (λ f. left f (reported ws xs x solver (solved ws xs x solver)) before) (residuals-same (length before));
           needed = ap (λ f. cond (eqb (f .number) 0) (2 * buses ws + 4 * branches ws) 0) network-same;

@@ -45,6 +45,6 @@ module _ (ws : List ℕ) (g : ℕ) (L : FirstLong ws g) where
         words = words-refused;
         network = refused-first _;
         compile = λ lent. refused-first _;
-        check = λ x solver lent. refused-first _;
+        check = λ x solver ts lent. refused-first _;
         residuals = λ x solver lent. refused-first _;
       }

@@ -51,17 +51,18 @@ module _ (ws : List ℕ) (xs : List Float) where
     pub getters : compile.answered ws xs (compileBefore (lengths ws xs)) ≡ sized ws xs
 
   module _ (x : List Float) (solver : Float) where
-    abbrev pub checkBefore : ℕ → Fault
-    checkBefore lent = firstBefore ws (checkSections ws xs x solver lent (solved ws xs x solver))
+    abbrev pub checkBefore : List Float → ℕ → Fault
+    checkBefore ts lent = firstBefore ws (checkSections ws xs x solver ts lent (solved ws xs x solver))
 
     abbrev pub residualsBefore : ℕ → Fault
     residualsBefore lent = firstBefore ws (networkSections ws xs ++ reportSections ws xs x solver lent (solved ws xs x solver))
 
     -- the check's answer and its output list, that of the residuals and its list, and the outputs' length
     pub record CheckAsBefore : Type 0 where
-      pub answer : (lent : ℕ) → validate.answered (checkBefore lent) (solved ws xs x solver) ≡ checked ws xs x solver lent
-      pub outputs : (before : List Float)
-          → left (checkBefore (length before)) (solved ws xs x solver .outputs) before ≡ outputsAfter ws xs x solver before
+      pub answer : (ts : List Float) (lent : ℕ)
+          → validate.answered (checkBefore ts lent) (solved ws xs x solver) ≡ checked ws xs x solver ts lent
+      pub outputs : (ts before : List Float)
+          → left (checkBefore ts (length before)) (solved ws xs x solver .outputs) before ≡ outputsAfter ws xs x solver ts before
       pub residuals : (lent : ℕ) → residualsBefore lent ≡ residualsFault ws xs x solver lent
       pub report : (before : List Float)
           → left (residualsBefore (length before)) (reported ws xs x solver (solved ws xs x solver)) before ≡ reportAfter ws xs x solver before

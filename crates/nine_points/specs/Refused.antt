@@ -27,5 +27,5 @@ pub record RefusedWith (ws : List ℕ) (xs : List Float) (f : Fault) : Type 0 wh
   pub words : wordsFault ws ≡ f
   pub network : networkFault ws xs ≡ f
   pub compile : (lent : List ℕ) → compileFault ws xs lent ≡ f
-  pub check : (x : List Float) (solver : Float) (lent : ℕ) → checkFault ws xs x solver lent ≡ f
+  pub check : (x : List Float) (solver : Float) (ts : List Float) (lent : ℕ) → checkFault ws xs x solver ts lent ≡ f
   pub residuals : (x : List Float) (solver : Float) (lent : ℕ) → residualsFault ws xs x solver lent ≡ f

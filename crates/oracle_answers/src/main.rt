@@ -150,7 +150,7 @@ fn check_right(
     requires { ⌜ (lent ≤ length (now list)) × (lent < 4294967296) × (i < 68719476736) ⌝ }
 {
     let solver = value(bytes, at, 8);
-    let answer = validate::check(words, numbers, point, solver, &mut list[..lent]);
+    let answer = validate::check(words, numbers, point, solver, &[1e-6; 8], &mut list[..lent]);
     let residuals = answer.residuals;
     if !answer_right(bytes, at, answer.fault, answer.objective) {
         return false;

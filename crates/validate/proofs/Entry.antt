@@ -1,16 +1,17 @@
 -- The check from its entry on: the ways out by 1 to 14, and what holds where they are clear.
 use mathlib.Core.Path.{_≡_, refl, ap, sym, _∙_}
-use mathlib.Core.List.{List}
+use mathlib.Core.List.{List, [], _∷_}
 use Prim.Native.Nat.{ℕ, _+_, _*_, _≤_}
 use native.Mathlib.Omega.{arith}
 use lib.ListN.{length}
 use lib.Ieee.{Float}
 use borrow.Author.Tests.{leb-true, ne-eqb}
 use Rattle.base.specs.declared.Fault.{Fault}
-use Rattle.base.specs.Fault.{clear}
+use Rattle.base.specs.Fault.{clear, section}
+use Rattle.base.specs.Refusal.{SHORT, TOLERANCE}
 use Rattle.base.specs.Order.{numbersOf}
 use Rattle.base.proofs.Firsts.{Clear, Spans, or-left, unless-true, spans-or, spans-wide}
-use Rattle.base.proofs.Order.{other-number}
+use Rattle.base.proofs.Order.{other-number, gives-one, first-gives}
 use Rattle.network.specs.Limits.{mostBuses, mostGenerators}
 use Rattle.network.specs.Network.{buses, branches, columns}
 use Rattle.network.specs.declared.layout.Layout.{Layout}
@@ -25,9 +26,11 @@ use Rattle.derived.specs.contracts.Agree.{Ready}
 use Rattle.derived.proofs.Ready.{ready}
 use Rattle.validate.specs.declared.Checked.{Checked}
 use Rattle.validate.specs.Check.{outputsNeeded, faultOutput, faultPoint, checkFault, checked, outputsAfter}
-use Rattle.validate.specs.contracts.Verdict.{faultGiven, Cleared, refusal}
+use Rattle.validate.specs.Tolerances.{faultTolerance}
+use Rattle.validate.specs.contracts.Verdict.{faultLent, faultGiven, Cleared, refusal}
+use Rattle.validate.proofs.Tolerances.{tolerance-spans}
 use Rattle.validate.proofs.Order.{output-spans, point-spans, swing-spans}
-use Rattle.validate.proofs.Verdict.{count-is, refused-is, list-kept, by-network, by-output, by-given}
+use Rattle.validate.proofs.Verdict.{count-is, refused-is, list-kept, by-network, by-lent, by-given}
 
 -- 13, where the network has so many columns
 pub point-is : (ws : List ℕ) (xs x : List Float) (solver : Float) {n : ℕ} → n ≡ columns ws → pointFault x n ≡ faultPoint ws xs x solver
@@ -74,38 +77,45 @@ module _ (ws : List ℕ) (xs x : List Float) (solver : Float) where
   pub given-ready : {l : Layout} → Laid ws xs l → Clear (faultGiven ws xs x solver) → Ready ws xs x l
   given-ready L c = ready L (point-given (or-left _ _ c))
 
-  pub check-cleared : {l : Layout} (lent : ℕ) → networkFault ws xs ≡ clear → Laid ws xs l → Clear (faultOutput ws xs x solver lent)
+  pub check-cleared : (ts : List Float) {l : Layout} (lent : ℕ) → networkFault ws xs ≡ clear → Laid ws xs l → Clear (faultLent ws xs x solver ts lent)
       → Clear (faultGiven ws xs x solver)
-      → Ready ws xs x l × (2 * l .buses + 4 * l .branches ≤ lent) × Cleared ws xs x solver (faultOutput ws xs x solver lent)
-  check-cleared lent e L o g =
-      (given-ready L g, omega (arith, count-is L, output-room lent o), record { network = ap (λ f. f .number) e; lent = o; given = g })
+      → Ready ws xs x l × (2 * l .buses + 4 * l .branches ≤ lent) × Cleared ws xs x solver (faultLent ws xs x solver ts lent)
+  check-cleared ts lent e L o g =
+      let room = output-room lent (or-left _ (faultTolerance ts) o) in
+      (given-ready L g, omega (arith, count-is L, room), record { network = ap (λ f. f .number) e; lent = o; given = g })
 
   -- ---- where they decide
+
+  lent-not-16 : (ts : List Float) (lent : ℕ) → (Clear (faultLent ws xs x solver ts lent) → ⊥) → faultLent ws xs x solver ts lent .number ≡ 16 → ⊥
+  lent-not-16 ts lent c =
+      let sections = section (SHORT ∷ []) (faultOutput ws xs x solver lent) ∷ section (TOLERANCE ∷ []) (faultTolerance ts) ∷ [] in
+      other-number (faultLent ws xs x solver ts lent .number) 16 (SHORT ∷ TOLERANCE ∷ [])
+      (first-gives sections (gives-one (output-spans ws xs x solver lent), (gives-one (tolerance-spans ts), tt)) c) refl
 
   given-spans : Spans 13 14 (faultGiven ws xs x solver)
   given-spans =
       spans-or (spans-wide (omega arith) (omega arith) (point-spans ws xs x solver)) (spans-wide (omega arith) (omega arith) (swing-spans ws xs x solver))
 
-  module _ (before : List Float) {f : Fault} {r : Checked} (says : r ≡ refusal f) (refuses : f .number ≡ 0 → ⊥) where
-    stop : f ≡ checkFault ws xs x solver (length before) → (f .number ≡ 16 → ⊥)
-        → (r ≡ checked ws xs x solver (length before)) × (before ≡ outputsAfter ws xs x solver before)
-    stop e l = (says ∙ refused-is ws xs x solver (length before) f e refuses l, list-kept ws xs x solver before f e refuses)
+  module _ (ts before : List Float) {f : Fault} {r : Checked} (says : r ≡ refusal f) (refuses : f .number ≡ 0 → ⊥) where
+    stop : f ≡ checkFault ws xs x solver ts (length before) → (f .number ≡ 16 → ⊥)
+        → (r ≡ checked ws xs x solver ts (length before)) × (before ≡ outputsAfter ws xs x solver ts before)
+    stop e l = (says ∙ refused-is ws xs x solver ts (length before) f e refuses l, list-kept ws xs x solver ts before f e refuses)
 
     number : {g : Fault} → f ≡ g → Clear g → ⊥
     number e z = refuses (ap (λ y. y .number) e ∙ z)
 
-    pub stop-network : f ≡ networkFault ws xs → (r ≡ checked ws xs x solver (length before)) × (before ≡ outputsAfter ws xs x solver before)
+    pub stop-network : f ≡ networkFault ws xs → (r ≡ checked ws xs x solver ts (length before)) × (before ≡ outputsAfter ws xs x solver ts before)
     stop-network e =
-        stop (e ∙ by-network ws xs x solver (length before) (number e)) (λ z. not-16 ws xs (number e) (sym (ap (λ y. y .number) e) ∙ z))
+        stop (e ∙ by-network ws xs x solver ts (length before) (number e)) (λ z. not-16 ws xs (number e) (sym (ap (λ y. y .number) e) ∙ z))
 
-    pub stop-output : networkFault ws xs ≡ clear → f ≡ faultOutput ws xs x solver (length before)
-        → (r ≡ checked ws xs x solver (length before)) × (before ≡ outputsAfter ws xs x solver before)
-    stop-output network e =
-        stop (e ∙ by-output ws xs x solver (length before) (ap (λ y. y .number) network) (number e))
-        (λ z. omega (arith, ap (λ y. y .number) e, output-spans ws xs x solver (length before) .high (number e)))
+    pub stop-lent : networkFault ws xs ≡ clear → f ≡ faultLent ws xs x solver ts (length before)
+        → (r ≡ checked ws xs x solver ts (length before)) × (before ≡ outputsAfter ws xs x solver ts before)
+    stop-lent network e =
+        stop (e ∙ by-lent ws xs x solver ts (length before) (ap (λ y. y .number) network) (number e))
+        (λ z. lent-not-16 ts (length before) (number e) (sym (ap (λ y. y .number) e) ∙ z))
 
-    pub stop-given : networkFault ws xs ≡ clear → Clear (faultOutput ws xs x solver (length before)) → f ≡ faultGiven ws xs x solver
-        → (r ≡ checked ws xs x solver (length before)) × (before ≡ outputsAfter ws xs x solver before)
+    pub stop-given : networkFault ws xs ≡ clear → Clear (faultLent ws xs x solver ts (length before)) → f ≡ faultGiven ws xs x solver
+        → (r ≡ checked ws xs x solver ts (length before)) × (before ≡ outputsAfter ws xs x solver ts before)
     stop-given network output e =
-        stop (e ∙ by-given ws xs x solver (length before) (ap (λ y. y .number) network) output (number e))
+        stop (e ∙ by-given ws xs x solver ts (length before) (ap (λ y. y .number) network) output (number e))
         (λ z. omega (arith, ap (λ y. y .number) e, given-spans .high (number e)))

@@ -1,15 +1,15 @@
 -- A refusal of the check is the first.
 use mathlib.Core.Path.{_≡_, refl}
 use mathlib.Core.List.{List, [], _∷_, _++_}
-use mathlib.Core.Bool.{not}
 use Prim.Native.Nat.{ℕ, _+_, _*_, _<_}
 use native.Mathlib.Omega.{arith}
 use lib.ListN.{length, getD, List·getD-append}
 use lib.Seq.{getD-append-add}
-use lib.Ieee.{Float, nan, lt}
-use Rattle.base.specs.Fault.{fault, orElse, firstOf}
+use lib.Ieee.{Float, nan}
+use Rattle.base.specs.Fault.{fault, orElse, section, firstOf}
+use Rattle.base.specs.Refusal.{RESIDUAL}
 use Rattle.base.specs.Order.{IsFirst}
-use Rattle.base.proofs.Firsts.{Clear, Spans, spans-unless, spans-first, FirstFail, first-fails}
+use Rattle.base.proofs.Firsts.{Clear, Proper, or-proper, Spans, spans-unless, spans-first, FirstFail, first-fails}
 use Rattle.base.proofs.Order.{AllGive, gives-one, give-append, first-append, refusal-is-first}
 use Rattle.lists.proofs.Point as by-length
 use Rattle.acopf.specs.Factor.{networkSections, networkFault}
@@ -20,7 +20,9 @@ use Rattle.bounds.specs.Bounds.{angleRight}
 use Rattle.network.specs.Network.{buses, branches, columns, vaColumn}
 use Rattle.derived.specs.Outputs.{va, ownObjective, flows, outputs}
 use Rattle.derived.proofs.Outputs.{length-outputs}
-use Rattle.validate.specs.Check.{tolerances, Solved, solved, faultOutput, faultPoint, faultSwing, faultDerived, faultResidual, pointSections, checkSections, faultOf, checkFault}
+use Rattle.validate.specs.Tolerances.{faultResidual}
+use Rattle.validate.specs.Check.{Solved, solved, faultOutput, faultPoint, faultSwing, faultDerived, commonSections, pointSections, checkSections, faultOf, checkFault}
+use Rattle.validate.proofs.Tolerances.{tolerance-spans, residual-spans, residual-proper}
 
 module _ (ws : List ℕ) (xs x : List Float) (solver : Float) where
   pub output-spans : (lent : ℕ) → Spans 12 12 (faultOutput ws xs x solver lent)
@@ -39,27 +41,33 @@ module _ (ws : List ℕ) (xs x : List Float) (solver : Float) where
   unfolding faultDerived
   derived-spans s = non-finite-spans 15 _
 
-  pub residual-spans : (s : Solved) → Spans 16 16 (faultResidual ws xs x solver s)
-  unfolding faultResidual
-  residual-spans s = spans-first _ (λ i. spans-unless _ 16 _ (omega arith) (omega arith))
+  pub common-give : (s : Solved) → AllGive (commonSections ws xs x solver s)
+  common-give s = (gives-one point-spans, (gives-one swing-spans, (gives-one (derived-spans s), tt)))
 
-  point-give : (lent : ℕ) (s : Solved) → AllGive (pointSections ws xs x solver lent s)
-  point-give lent s =
-      (gives-one (output-spans lent), (gives-one point-spans, (gives-one swing-spans, (gives-one (derived-spans s), (gives-one (residual-spans s), tt)))))
+  module _ (ts : List Float) where
+    point-give : (lent : ℕ) (s : Solved) → AllGive (pointSections ws xs x solver ts lent s)
+    point-give lent s =
+        let above = section (RESIDUAL ∷ []) (faultResidual ts (s .residuals)) ∷ [] in
+        (gives-one (output-spans lent), (gives-one (tolerance-spans ts), give-append (commonSections ws xs x solver s) above (common-give s) (gives-one (residual-spans _ _), tt)))
 
-  pub check-refusal : (lent : ℕ) → (Clear (checkFault ws xs x solver lent) → ⊥)
-      → IsFirst (checkFault ws xs x solver lent) (checkSections ws xs x solver lent (solved ws xs x solver))
-  unfolding checkFault faultOf
-  check-refusal lent c =
-      let s = solved ws xs x solver in
-      refusal-is-first (checkSections ws xs x solver lent s)
-      (give-append (networkSections ws xs) (pointSections ws xs x solver lent s) (network-give ws xs) (point-give lent s)) refl c
+    pub check-refusal : (lent : ℕ) → (Clear (checkFault ws xs x solver ts lent) → ⊥)
+        → IsFirst (checkFault ws xs x solver ts lent) (checkSections ws xs x solver ts lent (solved ws xs x solver))
+    unfolding checkFault faultOf
+    check-refusal lent c =
+        let s = solved ws xs x solver in
+        refusal-is-first (checkSections ws xs x solver ts lent s)
+        (give-append (networkSections ws xs) (pointSections ws xs x solver ts lent s) (network-give ws xs) (point-give lent s)) refl c
 
-  -- the network's first, else the first of 12 to 16
-  pub check-is : (lent : ℕ) → checkFault ws xs x solver lent
-      ≡ orElse (networkFault ws xs) (firstOf (pointSections ws xs x solver lent (solved ws xs x solver)))
-  unfolding checkFault faultOf networkFault
-  check-is lent = first-append (networkSections ws xs) (pointSections ws xs x solver lent (solved ws xs x solver)) tt
+    -- the network's first, else the first of 12, 20 and 13 to 16
+    pub check-is : (lent : ℕ) → checkFault ws xs x solver ts lent
+        ≡ orElse (networkFault ws xs) (firstOf (pointSections ws xs x solver ts lent (solved ws xs x solver)))
+    unfolding checkFault faultOf networkFault
+    check-is lent = first-append (networkSections ws xs) (pointSections ws xs x solver ts lent (solved ws xs x solver)) tt
+
+    -- where it refuses nothing, its place is 0 too
+    pub check-proper : (lent : ℕ) → Proper (checkFault ws xs x solver ts lent)
+    check-proper lent =
+        rw (check-is lent) (or-proper _ _ (or-proper _ _ (or-proper _ _ (or-proper _ _ (or-proper _ _ (or-proper _ _ (residual-proper _ _)))))))
 
   -- ---- the places
 
@@ -100,9 +108,3 @@ module _ (ws : List ℕ) (xs x : List Float) (solver : Float) where
   derived-own =
       let e : length (outputs ws xs x (flows ws xs x)) + 1 ≡ 2 * buses ws + 4 * branches ws + 1 = omega (arith, length-outputs ws xs x (flows ws xs x)) in
       rw e at (getD-append-add (outputs ws xs x (flows ws xs x)) (solver ∷ ownObjective ws xs x ∷ []) 1 nan)
-
-  -- 16: the first residual above its tolerance, from 1
-  pub residual-place : (s : Solved) → (Clear (faultResidual ws xs x solver s) → ⊥)
-      → FirstFail 8 (λ i. not (lt (getD tolerances i nan) (getD (s .residuals) i nan))) 16 (λ i. i + 1) (faultResidual ws xs x solver s)
-  unfolding faultResidual
-  residual-place s c = first-fails 8 (λ i. not (lt (getD tolerances i nan) (getD (s .residuals) i nan))) 16 (λ i. i + 1) (omega arith) c

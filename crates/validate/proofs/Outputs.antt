@@ -17,11 +17,11 @@ use Rattle.derived.specs.Outputs.{flows, outputs}
 use Rattle.derived.proofs.Outputs.{length-outputs}
 
 -- the lent list then holds the outputs in front
-pub outputs-front : (ws : List ℕ) (xs x : List Float) (solver : Float) (before : List Float) → checkFault ws xs x solver (length before) ≡ clear
-    → take (2 * buses ws + 4 * branches ws) (outputsAfter ws xs x solver before) ≡ outputs ws xs x (flows ws xs x)
+pub outputs-front : (ws : List ℕ) (xs x : List Float) (solver : Float) (ts before : List Float) → checkFault ws xs x solver ts (length before) ≡ clear
+    → take (2 * buses ws + 4 * branches ws) (outputsAfter ws xs x solver ts before) ≡ outputs ws xs x (flows ws xs x)
 unfolding solved
-outputs-front ws xs x solver before e =
-    left-front (checkFault ws xs x solver (length before)) (outputs ws xs x (flows ws xs x)) before (2 * buses ws + 4 * branches ws) (ap (λ f. f .number) e) (sym (length-outputs ws xs x (flows ws xs x)))
+outputs-front ws xs x solver ts before e =
+    left-front (checkFault ws xs x solver ts (length before)) (outputs ws xs x (flows ws xs x)) before (2 * buses ws + 4 * branches ws) (ap (λ f. f .number) e) (sym (length-outputs ws xs x (flows ws xs x)))
 
 -- a list of the length that the network alone gives is never too short
 pub needed-suffices : (ws : List ℕ) (xs x : List Float) (solver : Float) → Clear (networkFault ws xs) → faultOutput ws xs x solver (outputsNeeded ws xs) ≡ clear

@@ -21,7 +21,7 @@ use Rattle.residuals.specs.Residuals.{residuals}
 use Rattle.validate.specs.declared.measure.Measured.{Measured}
 use Rattle.validate.specs.Check.{Solved, solved, faultReport, faultPoint, faultSwing, faultDerived, reported, reportSections, residualsFault, reportAfter}
 use Rattle.validate.specs.contracts.Verdict.{faultGiven, Cleared, Measures}
-use Rattle.validate.proofs.Order.{point-spans, swing-spans, derived-spans}
+use Rattle.validate.proofs.Order.{common-give}
 use Rattle.validate.proofs.Entry.{given-ready}
 
 -- ---- the refusals
@@ -32,8 +32,7 @@ module _ (ws : List ℕ) (xs x : List Float) (solver : Float) where
   report-spans lent = spans-unless _ 12 _ (omega arith) (omega arith)
 
   report-give : (lent : ℕ) (s : Solved) → AllGive (reportSections ws xs x solver lent s)
-  report-give lent s =
-      (gives-one (report-spans lent), (gives-one (point-spans ws xs x solver), (gives-one (swing-spans ws xs x solver), (gives-one (derived-spans ws xs x solver s), tt))))
+  report-give lent s = (gives-one (report-spans lent), common-give ws xs x solver s)
 
   -- the first in order, of 1 to 15
   pub residuals-refusal : (lent : ℕ) → (Clear (residualsFault ws xs x solver lent) → ⊥)

@@ -1,29 +1,22 @@
--- Document 01, "The accepted point" and refusals 12 to 16: what the check answers, and what the lent output list then holds.
+-- Document 01, "The accepted point", and refusals 12, 20 and 13 to 16: what the check answers, and what the lent output list then holds.
 use Prim.Native.Nat.{ℕ, _+_, _*_}
-use mathlib.Core.Bool.{cond, not}
+use mathlib.Core.Bool.{cond}
 use mathlib.Core.List.{List, [], _∷_, _++_}
 use lib.ListN.{length, getD, replicate}
 use lib.Dec.{eqb, leb, ltb}
-use lib.Ieee.{Float, nan, binary64, ofBits, lt}
+use lib.Ieee.{Float, nan}
 use Rattle.base.specs.declared.Fault.{Fault}
 use Rattle.base.specs.Fault.{fault, clear, unless, first, Section, section, firstOf, left}
-use Rattle.base.specs.Refusal.{SHORT, POINT, SWING, DERIVED, RESIDUAL}
+use Rattle.base.specs.Refusal.{SHORT, POINT, SWING, DERIVED, RESIDUAL, TOLERANCE}
 use Rattle.float.specs.Number.{zero64}
 use Rattle.network.specs.Network.{buses, branches, columns, vaColumn}
 use Rattle.bounds.specs.Bounds.{angleRight}
 use Rattle.lists.specs.Finite.{firstNonFinite, pointFault}
 use Rattle.acopf.specs.Factor.{networkSections, networkFault}
 use Rattle.validate.specs.declared.Checked.{Checked}
+use Rattle.validate.specs.Tolerances.{faultTolerance, faultResidual}
 use Rattle.derived.specs.Outputs.{va, flows, outputs, ownObjective}
 use Rattle.residuals.specs.Residuals.{residuals}
-
--- 1e-6, the Rust's PRIMAL_TOLERANCE
-abbrev pub tiny64 : Float
-tiny64 = ofBits binary64 0x3EB0_C6F7_A0B5_ED8D
-
--- "a table of eight, all 1e-6"
-unfoldable pub tolerances : List Float
-tolerances = replicate 8 tiny64
 
 -- residual i, from 0, across the C boundary; an index past 7 answers 0
 unfoldable pub residualAt : List Float → ℕ → Float
@@ -67,35 +60,38 @@ module _ (ws : List ℕ) (xs x : List Float) (solver : Float) where
   unfoldable pub faultDerived : Solved → Fault
   faultDerived s = firstNonFinite DERIVED (s .outputs ++ (solver ∷ s .objective ∷ []))
 
-  -- 16 residual: "one above tolerance; first, 1-8"; "only above refuses"
-  unfoldable pub faultResidual : Solved → Fault
-  faultResidual s = first 8 (λ i. unless (not (lt (getD tolerances i nan) (getD (s .residuals) i nan))) (fault RESIDUAL (i + 1)))
+  -- 13 to 15 in their order, for the check and for the residuals alike
+  abbrev pub commonSections : Solved → List Section
+  commonSections s =
+      section (POINT ∷ []) faultPoint ∷ section (SWING ∷ []) faultSwing ∷ section (DERIVED ∷ []) (faultDerived s) ∷ []
 
-  -- 12 to 16 in their order
-  abbrev pub pointSections : ℕ → Solved → List Section
-  pointSections lent s =
-      section (SHORT ∷ []) (faultOutput lent) ∷ section (POINT ∷ []) faultPoint ∷ section (SWING ∷ []) faultSwing
-      ∷ section (DERIVED ∷ []) (faultDerived s) ∷ section (RESIDUAL ∷ []) (faultResidual s) ∷ []
+  -- the check with the tolerances ts and an output list of length `lent`
+  module _ (ts : List Float) where
+    -- 12 to 16 in their order, with "Refusal 20, after 12 and before 13"
+    abbrev pub pointSections : ℕ → Solved → List Section
+    pointSections lent s =
+        section (SHORT ∷ []) (faultOutput lent) ∷ section (TOLERANCE ∷ []) (faultTolerance ts)
+        ∷ (commonSections s ++ (section (RESIDUAL ∷ []) (faultResidual ts (s .residuals)) ∷ []))
 
-  -- "check 1-16"
-  abbrev pub checkSections : ℕ → Solved → List Section
-  checkSections lent s = networkSections ws xs ++ pointSections lent s
+    -- "check 1-16"
+    abbrev pub checkSections : ℕ → Solved → List Section
+    checkSections lent s = networkSections ws xs ++ pointSections lent s
 
-  unfoldable pub faultOf : ℕ → Solved → Fault
-  faultOf lent s = firstOf (checkSections lent s)
+    unfoldable pub faultOf : ℕ → Solved → Fault
+    faultOf lent s = firstOf (checkSections lent s)
 
-  unfoldable pub checkFault : ℕ → Fault
-  checkFault lent = faultOf lent solved
+    unfoldable pub checkFault : ℕ → Fault
+    checkFault lent = faultOf lent solved
 
-  unfoldable pub checked : ℕ → Checked
-  checked lent =
-      let s = solved in
-      let f = faultOf lent s in
-      answered f s
+    unfoldable pub checked : ℕ → Checked
+    checked lent =
+        let s = solved in
+        let f = faultOf lent s in
+        answered f s
 
-  -- the output list after the call, from what it held before: the outputs in front and the rest as it was, or all as it was
-  abbrev pub outputsAfter : List Float → List Float
-  outputsAfter before = left (checkFault (length before)) (solved .outputs) before
+    -- the output list after the call, from what it held before: the outputs in front and the rest as it was, or all as it was
+    abbrev pub outputsAfter : List Float → List Float
+    outputsAfter before = left (checkFault (length before)) (solved .outputs) before
 
   -- ---- the residuals and the objective of a point that the check may refuse with 16
 
@@ -107,11 +103,9 @@ module _ (ws : List ℕ) (xs x : List Float) (solver : Float) where
   unfoldable pub faultReport : ℕ → Fault
   faultReport lent = unless (leb 9 lent) (fault SHORT 1)
 
-  -- 12 to 15 in their order; a residual above its tolerance is no refusal
+  -- 12 to 15 in their order; no tolerance is asked, so that neither 20 nor 16 is among them
   abbrev pub reportSections : ℕ → Solved → List Section
-  reportSections lent s =
-      section (SHORT ∷ []) (faultReport lent) ∷ section (POINT ∷ []) faultPoint ∷ section (SWING ∷ []) faultSwing
-      ∷ section (DERIVED ∷ []) (faultDerived s) ∷ []
+  reportSections lent s = section (SHORT ∷ []) (faultReport lent) ∷ commonSections s
 
   -- 1 to 15 as the check's
   unfoldable pub residualsFault : ℕ → Fault

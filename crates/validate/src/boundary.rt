@@ -32,14 +32,15 @@ pub extern "C" fn fervoulk_check(
     numbers: &[f64],
     point: &[f64],
     solver: f64,
+    tolerances: &[f64],
     outputs: &mut [f64],
 ) -> u64
     ensures { λ r. ⌜ (let ws = now (words .entry) in let xs = now (numbers .entry) in let x = now (point .entry) in
-        let before = now (outputs .entry) in
-        (r ≡ packed (checked ws xs x solver (length before) .fault)) × (now (outputs .exit) ≡ outputsAfter ws xs x solver before)
-        × Doubles xs × Doubles x × T (fits binary64 solver)) ⌝ }
+        let ts = now (tolerances .entry) in let before = now (outputs .entry) in
+        (r ≡ packed (checked ws xs x solver ts (length before) .fault)) × (now (outputs .exit) ≡ outputsAfter ws xs x solver ts before)
+        × Doubles xs × Doubles x × T (fits binary64 solver) × Doubles ts) ⌝ }
 {
-    let answer = check(words, numbers, point, solver, outputs);
+    let answer = check(words, numbers, point, solver, tolerances, outputs);
     base::packed(answer.fault)
 }
 
@@ -49,13 +50,14 @@ pub extern "C" fn fervoulk_objective(
     numbers: &[f64],
     point: &[f64],
     solver: f64,
+    tolerances: &[f64],
     outputs: &mut [f64],
 ) -> f64
     ensures { λ r. ⌜ (let ws = now (words .entry) in let xs = now (numbers .entry) in let x = now (point .entry) in
-        let before = now (outputs .entry) in
-        (r ≡ checked ws xs x solver (length before) .objective) × (now (outputs .exit) ≡ outputsAfter ws xs x solver before)) ⌝ }
+        let ts = now (tolerances .entry) in let before = now (outputs .entry) in
+        (r ≡ checked ws xs x solver ts (length before) .objective) × (now (outputs .exit) ≡ outputsAfter ws xs x solver ts before)) ⌝ }
 {
-    let answer = check(words, numbers, point, solver, outputs);
+    let answer = check(words, numbers, point, solver, tolerances, outputs);
     answer.objective
 }
 
@@ -72,15 +74,16 @@ pub extern "C" fn fervoulk_residual(
     numbers: &[f64],
     point: &[f64],
     solver: f64,
+    tolerances: &[f64],
     outputs: &mut [f64],
     i: usize,
 ) -> f64
     ensures { λ r. ⌜ (let ws = now (words .entry) in let xs = now (numbers .entry) in let x = now (point .entry) in
-        let before = now (outputs .entry) in
-        (r ≡ residualAt (checked ws xs x solver (length before) .residuals) i)
-        × (now (outputs .exit) ≡ outputsAfter ws xs x solver before)) ⌝ }
+        let ts = now (tolerances .entry) in let before = now (outputs .entry) in
+        (r ≡ residualAt (checked ws xs x solver ts (length before) .residuals) i)
+        × (now (outputs .exit) ≡ outputsAfter ws xs x solver ts before)) ⌝ }
 {
-    let answer = check(words, numbers, point, solver, outputs);
+    let answer = check(words, numbers, point, solver, tolerances, outputs);
     let residuals = answer.residuals;
     residual(residuals, i)
 }

@@ -1,4 +1,5 @@
-// Refusals 12, short, 13, point, and 14, swing.
+// Refusals 12, short, and 20, tolerance, of what is lent, then 13, point, and 14, swing.
+use crate::tolerance::tolerance_fault;
 use acopf::Tallies;
 use base::Fault;
 use base::refusal;
@@ -14,10 +15,10 @@ ghost use Rattle.network.specs.Layout.{LaidWords};
 ghost use Rattle.network.specs.Network.{buses, branches, columns};
 ghost use Rattle.acopf.specs.Tallies.{Tallied};
 ghost use Rattle.validate.specs.Check.{faultOutput, faultPoint, faultSwing};
-ghost use Rattle.validate.specs.contracts.Verdict.{faultGiven};
+ghost use Rattle.validate.specs.contracts.Verdict.{faultLent, faultGiven};
 
 // 12, where there are `count` outputs.
-pub(crate) fn output_fault(lent: usize, count: usize) -> Fault
+fn output_fault(lent: usize, count: usize) -> Fault
     ensures { λ r. ⌜ ((ws : List ℕ) (xs x : List Float) (solver : Float)
         → count ≡ 2 * buses ws + 4 * branches ws → r ≡ faultOutput ws xs x solver lent) ⌝ }
 {
@@ -28,6 +29,18 @@ pub(crate) fn output_fault(lent: usize, count: usize) -> Fault
         };
     }
     refusal::CLEAR
+}
+
+// 12, where there are `count` outputs, then 20.
+pub(crate) fn lent_fault(lent: usize, count: usize, tolerances: &[f64]) -> Fault
+    ensures { λ r. ⌜ ((ws : List ℕ) (xs x : List Float) (solver : Float)
+        → count ≡ 2 * buses ws + 4 * branches ws → r ≡ faultLent ws xs x solver (now (tolerances .entry)) lent) ⌝ }
+{
+    let short = output_fault(lent, count);
+    if short.number != 0 {
+        return short;
+    }
+    tolerance_fault(tolerances)
 }
 
 // 14: va is the first n columns.

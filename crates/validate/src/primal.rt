@@ -1,8 +1,8 @@
-// validate_primal's verdict: refusals 1 to 16 in document 01's order, and the outputs of an accepted point.
+// validate_primal's verdict: refusals 1 to 16 in document 01's order, with 20 after 12, and the outputs of an accepted point.
 use crate::Checked;
 use crate::measure::measure;
 use crate::point::given_fault;
-use crate::point::output_fault;
+use crate::point::lent_fault;
 use crate::tolerance::residual_fault;
 use acopf::Tallies;
 use base::Fault;
@@ -20,8 +20,8 @@ ghost use Rattle.network.specs.Layout.{Laid};
 ghost use Rattle.acopf.specs.Factor.{networkFault};
 ghost use Rattle.acopf.specs.Tallies.{Tallied};
 ghost use Rattle.derived.specs.contracts.Agree.{Ready};
-ghost use Rattle.validate.specs.Check.{faultOutput, checked, outputsAfter};
-ghost use Rattle.validate.specs.contracts.Verdict.{Cleared, refusal};
+ghost use Rattle.validate.specs.Check.{checked, outputsAfter};
+ghost use Rattle.validate.specs.contracts.Verdict.{faultLent, Cleared, refusal};
 
 fn refused(f: Fault) -> Checked
     ensures { λ r. ⌜ r ≡ refusal f ⌝ }
@@ -43,6 +43,7 @@ fn verdict(
     point: &[f64],
     layout: Layout,
     solver: f64,
+    tolerances: &[f64],
     scratch: &mut [f64],
     outputs: &mut [f64],
 ) -> Checked
@@ -50,10 +51,10 @@ fn verdict(
         × (2 * layout .buses + 4 * layout .branches ≤ length (now scratch))
         × (2 * layout .buses + 4 * layout .branches ≤ length (now outputs))
         × (let ws = now words in let xs = now numbers in let x = now point in
-        Cleared ws xs x solver (faultOutput ws xs x solver (length (now outputs)))) ⌝ }
+        Cleared ws xs x solver (faultLent ws xs x solver (now tolerances) (length (now outputs)))) ⌝ }
     ensures { λ r. ⌜ (let ws = now (words .entry) in let xs = now (numbers .entry) in let x = now (point .entry) in
-        let before = now (outputs .entry) in
-        (r ≡ checked ws xs x solver (length before)) × (now (outputs .exit) ≡ outputsAfter ws xs x solver before)) ⌝ }
+        let ts = now (tolerances .entry) in let before = now (outputs .entry) in
+        (r ≡ checked ws xs x solver ts (length before)) × (now (outputs .exit) ≡ outputsAfter ws xs x solver ts before)) ⌝ }
 {
     let measured = measure(words, numbers, point, layout, solver, scratch);
     let derived = measured.fault;
@@ -61,7 +62,7 @@ fn verdict(
         return refused(derived);
     }
     let residuals = measured.residuals;
-    let above = residual_fault(residuals);
+    let above = residual_fault(residuals, tolerances);
     if above.number != 0 {
         return Checked {
             fault: above,
@@ -84,22 +85,41 @@ fn settled(
     point: &[f64],
     layout: Layout,
     solver: f64,
+    tolerances: &[f64],
     outputs: &mut [f64],
 ) -> Checked
     requires { ⌜ (Ready (now words) (now numbers) (now point) layout)
         × (2 * layout .buses + 4 * layout .branches ≤ length (now outputs))
         × (let ws = now words in let xs = now numbers in let x = now point in
-        Cleared ws xs x solver (faultOutput ws xs x solver (length (now outputs)))) ⌝ }
+        Cleared ws xs x solver (faultLent ws xs x solver (now tolerances) (length (now outputs)))) ⌝ }
     ensures { λ r. ⌜ (let ws = now (words .entry) in let xs = now (numbers .entry) in let x = now (point .entry) in
-        let before = now (outputs .entry) in
-        (r ≡ checked ws xs x solver (length before)) × (now (outputs .exit) ≡ outputsAfter ws xs x solver before)) ⌝ }
+        let ts = now (tolerances .entry) in let before = now (outputs .entry) in
+        (r ≡ checked ws xs x solver ts (length before)) × (now (outputs .exit) ≡ outputsAfter ws xs x solver ts before)) ⌝ }
 {
     if 2 * layout.buses + 4 * layout.branches <= FEW_OUTPUTS {
         let mut few = [0.0; FEW_OUTPUTS];
-        return verdict(words, numbers, point, layout, solver, &mut few, outputs);
+        return verdict(
+            words,
+            numbers,
+            point,
+            layout,
+            solver,
+            tolerances,
+            &mut few,
+            outputs,
+        );
     }
     let mut scratch = [0.0; MOST_OUTPUTS];
-    verdict(words, numbers, point, layout, solver, &mut scratch, outputs)
+    verdict(
+        words,
+        numbers,
+        point,
+        layout,
+        solver,
+        tolerances,
+        &mut scratch,
+        outputs,
+    )
 }
 
 // 12 to 16, where 1 to 11 are clear.
@@ -110,38 +130,44 @@ fn check_point(
     layout: Layout,
     tallies: Tallies,
     solver: f64,
+    tolerances: &[f64],
     outputs: &mut [f64],
 ) -> Checked
     requires { ⌜ (networkFault (now words) (now numbers) ≡ clear) × (Laid (now words) (now numbers) layout)
         × (Tallied (now words) (now numbers) tallies) ⌝ }
     ensures { λ r. ⌜ (let ws = now (words .entry) in let xs = now (numbers .entry) in let x = now (point .entry) in
-        let before = now (outputs .entry) in
-        (r ≡ checked ws xs x solver (length before)) × (now (outputs .exit) ≡ outputsAfter ws xs x solver before)) ⌝ }
+        let ts = now (tolerances .entry) in let before = now (outputs .entry) in
+        (r ≡ checked ws xs x solver ts (length before)) × (now (outputs .exit) ≡ outputsAfter ws xs x solver ts before)) ⌝ }
 {
-    let short = output_fault(outputs.len(), 2 * layout.buses + 4 * layout.branches);
-    if short.number != 0 {
-        return refused(short);
+    let lent = lent_fault(
+        outputs.len(),
+        2 * layout.buses + 4 * layout.branches,
+        tolerances,
+    );
+    if lent.number != 0 {
+        return refused(lent);
     }
     let given = given_fault(point, layout, tallies);
     if given.number != 0 {
         return refused(given);
     }
-    settled(words, numbers, point, layout, solver, outputs)
+    settled(words, numbers, point, layout, solver, tolerances, outputs)
 }
 
-// Whether the point is accepted. The outputs are written only then: the list's front is all p injections, all q injections, then all
-// p_from, q_from, p_to and q_to. After a refusal the list is as it was.
+// Whether the point is accepted, with a tolerance for each of the eight residuals. The outputs are written only then: the list's front is all
+// p injections, all q injections, then all p_from, q_from, p_to and q_to. After a refusal the list is as it was.
 pub fn check(
     words: &[u32],
     numbers: &[f64],
     point: &[f64],
     solver_objective: f64,
+    tolerances: &[f64],
     outputs: &mut [f64],
 ) -> Checked
     ensures { λ r. ⌜ (let ws = now (words .entry) in let xs = now (numbers .entry) in let x = now (point .entry) in
-        let before = now (outputs .entry) in
-        (r ≡ checked ws xs x «solver_objective» (length before))
-        × (now (outputs .exit) ≡ outputsAfter ws xs x «solver_objective» before)) ⌝ }
+        let ts = now (tolerances .entry) in let before = now (outputs .entry) in
+        (r ≡ checked ws xs x «solver_objective» ts (length before))
+        × (now (outputs .exit) ≡ outputsAfter ws xs x «solver_objective» ts before)) ⌝ }
 {
     let judged = judge(words, numbers);
     match judged {
@@ -153,6 +179,7 @@ pub fn check(
             layout,
             tallies,
             solver_objective,
+            tolerances,
             outputs,
         ),
     }

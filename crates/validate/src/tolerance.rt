@@ -1,31 +1,50 @@
-// Refusal 16, residual: the first of the eight that is above its tolerance.
+// The tolerances: refusal 20, of the list lent, and refusal 16, residual, the first of the eight that is above its own.
 use base::Fault;
 use base::refusal;
 ghost use mathlib.Core.Path.{_≡_};
-ghost use mathlib.Core.Bool.{not};
-ghost use Prim.Native.Nat.{_+_, _<_};
-ghost use lib.Ieee.{nan, lt};
-ghost use lib.ListN.{getD};
-ghost use Rattle.base.specs.Fault.{fault, unless, first};
-ghost use Rattle.base.specs.Refusal.{RESIDUAL};
-ghost use Rattle.validate.specs.Check.{tolerances};
+ghost use lib.ListN.{length};
+ghost use Rattle.validate.specs.Tolerances.{toleranceRight, faultTolerance, faultResidual};
 
-const TOLERANCES: [f64; 8] = [1e-6, 1e-6, 1e-6, 1e-6, 1e-6, 1e-6, 1e-6, 1e-6];
-
-fn tolerance(i: usize) -> f64
-    requires { ⌜ i < 8 ⌝ }
-    ensures { λ r. ⌜ r ≡ getD tolerances i nan ⌝ }
+// Whether a tolerance is finite and not below 0; -0 is not below 0.
+fn tolerance_right(tolerance: f64) -> bool
+    ensures { λ r. ⌜ r ≡ toleranceRight tolerance ⌝ }
 {
-    TOLERANCES[i]
+    let finite = float::is_finite(tolerance);
+    let below = tolerance < 0.0;
+    finite & !below
 }
 
-// A residual equal to its tolerance is not refused.
-pub(crate) fn residual_fault(residuals: [f64; 8]) -> Fault
-    ensures { λ r. ⌜ r ≡ first 8 (λ i. unless (not (lt (getD tolerances i nan) (getD residuals i nan))) (fault RESIDUAL (i + 1))) ⌝ }
+// 20. The length is looked at before any tolerance.
+pub(crate) fn tolerance_fault(tolerances: &[f64]) -> Fault
+    ensures { λ r. ⌜ r ≡ faultTolerance (now (tolerances .entry)) ⌝ }
+{
+    if tolerances.len() != 8 {
+        return Fault {
+            number: refusal::TOLERANCE,
+            place: 0,
+        };
+    }
+    let mut i = 0usize;
+    while i < 8 {
+        if !tolerance_right(tolerances[i]) {
+            return Fault {
+                number: refusal::TOLERANCE,
+                place: i + 1,
+            };
+        }
+        i += 1;
+    }
+    refusal::CLEAR
+}
+
+// 16. A residual equal to its tolerance is not refused.
+pub(crate) fn residual_fault(residuals: [f64; 8], tolerances: &[f64]) -> Fault
+    requires { ⌜ length (now tolerances) ≡ 8 ⌝ }
+    ensures { λ r. ⌜ r ≡ faultResidual (now (tolerances .entry)) residuals ⌝ }
 {
     let mut i = 0usize;
     while i < 8 {
-        if tolerance(i) < residuals[i] {
+        if tolerances[i] < residuals[i] {
             return Fault {
                 number: refusal::RESIDUAL,
                 place: i + 1,

@@ -11,6 +11,8 @@ mod c {
             point: *const f64,
             point_length: usize,
             solver: f64,
+            tolerances: *const f64,
+            tolerances_length: usize,
             outputs: *mut f64,
             outputs_length: usize,
         ) -> u64;
@@ -22,6 +24,8 @@ mod c {
             point: *const f64,
             point_length: usize,
             solver: f64,
+            tolerances: *const f64,
+            tolerances_length: usize,
             outputs: *mut f64,
             outputs_length: usize,
         ) -> f64;
@@ -33,6 +37,8 @@ mod c {
             point: *const f64,
             point_length: usize,
             solver: f64,
+            tolerances: *const f64,
+            tolerances_length: usize,
             outputs: *mut f64,
             outputs_length: usize,
             i: usize,
@@ -56,7 +62,7 @@ pub fn fervoulk_outputs(words: &[u32], numbers: &[f64]) -> usize {
     unsafe { c::fervoulk_outputs(words.as_ptr(), words.len(), numbers.as_ptr(), numbers.len()) }
 }
 
-pub fn fervoulk_check(words: &[u32], numbers: &[f64], point: &[f64], solver: f64, outputs: &mut [f64]) -> u64 {
+pub fn fervoulk_check(words: &[u32], numbers: &[f64], point: &[f64], solver: f64, tolerances: &[f64], outputs: &mut [f64]) -> u64 {
     // SAFETY: each pair is a slice; the written one is a `&mut` slice.
     unsafe {
         c::fervoulk_check(
@@ -67,13 +73,15 @@ pub fn fervoulk_check(words: &[u32], numbers: &[f64], point: &[f64], solver: f64
             point.as_ptr(),
             point.len(),
             solver,
+            tolerances.as_ptr(),
+            tolerances.len(),
             outputs.as_mut_ptr(),
             outputs.len(),
         )
     }
 }
 
-pub fn fervoulk_objective(words: &[u32], numbers: &[f64], point: &[f64], solver: f64, outputs: &mut [f64]) -> f64 {
+pub fn fervoulk_objective(words: &[u32], numbers: &[f64], point: &[f64], solver: f64, tolerances: &[f64], outputs: &mut [f64]) -> f64 {
     // SAFETY: each pair is a slice; the written one is a `&mut` slice.
     unsafe {
         c::fervoulk_objective(
@@ -84,13 +92,23 @@ pub fn fervoulk_objective(words: &[u32], numbers: &[f64], point: &[f64], solver:
             point.as_ptr(),
             point.len(),
             solver,
+            tolerances.as_ptr(),
+            tolerances.len(),
             outputs.as_mut_ptr(),
             outputs.len(),
         )
     }
 }
 
-pub fn fervoulk_residual(words: &[u32], numbers: &[f64], point: &[f64], solver: f64, outputs: &mut [f64], i: usize) -> f64 {
+pub fn fervoulk_residual(
+    words: &[u32],
+    numbers: &[f64],
+    point: &[f64],
+    solver: f64,
+    tolerances: &[f64],
+    outputs: &mut [f64],
+    i: usize,
+) -> f64 {
     // SAFETY: each pair is a slice; the written one is a `&mut` slice.
     unsafe {
         c::fervoulk_residual(
@@ -101,6 +119,8 @@ pub fn fervoulk_residual(words: &[u32], numbers: &[f64], point: &[f64], solver: 
             point.as_ptr(),
             point.len(),
             solver,
+            tolerances.as_ptr(),
+            tolerances.len(),
             outputs.as_mut_ptr(),
             outputs.len(),
             i,

@@ -11,16 +11,21 @@ use Rattle.network.specs.declared.layout.Layout.{Layout}
 use Rattle.acopf.specs.Factor.{networkFault}
 use Rattle.validate.specs.declared.Checked.{Checked}
 use Rattle.validate.specs.declared.measure.Measured.{Measured}
-use Rattle.validate.specs.Check.{solved, faultPoint, faultSwing, faultDerived}
+use Rattle.validate.specs.Tolerances.{faultTolerance}
+use Rattle.validate.specs.Check.{solved, faultOutput, faultPoint, faultSwing, faultDerived}
 
 -- 13, then 14
 abbrev pub faultGiven : List ℕ → List Float → List Float → Float → Fault
 faultGiven ws xs x solver = orElse (faultPoint ws xs x solver) (faultSwing ws xs x solver)
 
--- refusals 1 to 14 are clear; `short` is 12 of the lent list
-pub record Cleared (ws : List ℕ) (xs x : List Float) (solver : Float) (short : Fault) : Type 0 where
+-- 12, then 20, of what is lent with the point: the tolerances and an output list of length n
+abbrev pub faultLent : List ℕ → List Float → List Float → Float → List Float → ℕ → Fault
+faultLent ws xs x solver ts n = orElse (faultOutput ws xs x solver n) (faultTolerance ts)
+
+-- refusals 1 to 14 are clear; `before` is what comes before 13: 12, and in the check 20
+pub record Cleared (ws : List ℕ) (xs x : List Float) (solver : Float) (before : Fault) : Type 0 where
   pub network : networkFault ws xs .number ≡ 0
-  pub lent : short .number ≡ 0
+  pub lent : before .number ≡ 0
   pub given : faultGiven ws xs x solver .number ≡ 0
 
 -- m is what is worked out from the point, and the outputs are the scratch list's front

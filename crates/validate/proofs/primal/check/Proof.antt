@@ -19,18 +19,18 @@ enum-known-judged-2 c = search needs
 
 check-point-requires : tie.Need-check-point-requires
 check-point-requires c κs =
-    let args = c .before .before .before .before .before .before .before .before .before .args in
+    let args = c .before .before .before .before .before .before .before .before .before .before .args in
     let ws = args .words .now in
     let xs = args .numbers .now in
     subst (Judges ws xs) (c .before .before .judged2 .given .1) (c .before .before .before .before .judge .ensures)
 
 returns : tie.Need-returns
 returns c =
-    let args = c .before .before .before .before .before .before .before .before .before .args in
+    let args = c .before .before .before .before .before .before .before .before .before .before .args in
     let ws = args .words .now in
     let xs = args .numbers .now in
     let j = subst (Judges ws xs) (c .before .before .judged .given .1) (c .before .before .before .before .judge .ensures) in
-    stop-network ws xs (args .point .now) (args .solver-objective) (args .outputs .now) (c .refused .ensures) (j .1) (j .0)
+    stop-network ws xs (args .point .now) (args .solver-objective) (args .tolerances .now) (args .outputs .now) (c .refused .ensures) (j .1) (j .0)
 
 same-length : tie.Need-same-length
 same-length c = search needs

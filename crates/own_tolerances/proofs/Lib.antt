@@ -1,0 +1,2 @@
+pub mod AsBefore
+pub mod Wider
