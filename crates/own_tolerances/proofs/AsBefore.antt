@@ -1,5 +1,6 @@
 -- Document 02 (c): "A point check still agrees with the Rust whenever all eight are 1e-6".
 use Prim.Native.Nat.{ℕ, _+_}
+use native.Mathlib.Omega.{arith}
 use mathlib.Core.Path.{_≡_, refl, ap, _∙_}
 use mathlib.Core.Bool.{true, not}
 use mathlib.Core.List.{List}
@@ -22,13 +23,13 @@ primal-right = refl
 module _ (ts : List Float) (P : AllPrimal ts) where
   -- 20 refuses nothing
   passes : Clear (faultTolerance ts)
-  passes = right-clear ts (P .eight) (λ i l. ap toleranceRight (P .each i l) ∙ primal-right)
+  passes = right-clear ts (P .eight) (λ i l. ap toleranceRight (P .each i (omega (arith, l))) ∙ primal-right)
 
   -- 16 goes by 1e-6
   above-same : (residuals : List Float) → faultResidual ts residuals ≡ faultAbove (λ i. tiny64) residuals
   unfolding faultAbove
   above-same residuals =
-      first-same 8 _ _ (λ i l. ap (λ t. unless (not (lt t (getD residuals i nan))) (fault RESIDUAL (i + 1))) (P .each i l))
+      first-same 8 _ _ (λ i l. ap (λ t. unless (not (lt t (getD residuals i nan))) (fault RESIDUAL (i + 1))) (P .each i (omega (arith, l))))
 
   module _ (ws : List ℕ) (xs x : List Float) (solver : Float) where
     check-same : (lent : ℕ) → checkFault ws xs x solver ts lent ≡ checkBefore ws xs x solver lent

@@ -1,10 +1,10 @@
 -- A wider list of tolerances never refuses what a narrower one accepts.
-use Prim.Native.Nat.{ℕ, _<_}
-use mathlib.Core.Path.{_≡_, ap, sym, _∙_}
-use mathlib.Core.Bool.{false}
+use Prim.Native.Nat.{ℕ}
+use mathlib.Core.Path.{_≡_, ap, sym, subst, _∙_}
 use mathlib.Core.List.{List}
 use lib.ListN.{length, getD}
-use lib.Ieee.{Float, nan, lt}
+use lib.Dec.{T}
+use lib.Ieee.{Float, nan}
 use Rattle.base.specs.declared.Fault.{Fault}
 use Rattle.base.specs.Fault.{clear, orElse, left}
 use Rattle.base.proofs.Firsts.{Clear, or-left, or-right, or-clear}
@@ -27,7 +27,7 @@ module _ (ts us : List Float) (W : Wider ts us) where
   above-clear : Clear (faultTolerance ts) → (residuals : List Float) → Clear (faultResidual ts residuals) → Clear (faultResidual us residuals)
   above-clear right residuals c = above-none _ _ (λ i l.
       not-above (getD us i nan) (getD residuals i nan) (getD ts i nan) (finite-number _ (right-tolerance _ (each-right ts right i l) .0))
-      (none-above _ _ c i l) (most-not (getD ts i nan) (getD us i nan) (rw (W .each i l) tt)))
+      (none-above _ _ c i l) (most-not (getD ts i nan) (getD us i nan) (subst T (sym (W .each i l)) tt)))
 
   module _ (ws : List ℕ) (xs x : List Float) (solver : Float) where
     still-clear : (lent : ℕ) → Clear (checkFault ws xs x solver ts lent) → Clear (checkFault ws xs x solver us lent)

@@ -25,9 +25,9 @@ use Rattle.acopf.proofs.Order.{network-refusal}
 use Rattle.derived.specs.contracts.Agree.{Ready}
 use Rattle.derived.proofs.Ready.{ready}
 use Rattle.validate.specs.declared.Checked.{Checked}
-use Rattle.validate.specs.Check.{outputsNeeded, faultOutput, faultPoint, checkFault, checked, outputsAfter}
+use Rattle.validate.specs.Check.{outputsNeeded, faultOutput, faultPoint, checkFault}
 use Rattle.validate.specs.Tolerances.{faultTolerance}
-use Rattle.validate.specs.contracts.Verdict.{faultLent, faultGiven, Cleared, refusal}
+use Rattle.validate.specs.contracts.Verdict.{faultLent, faultGiven, Opened, Answers, refusal}
 use Rattle.validate.proofs.Tolerances.{tolerance-spans}
 use Rattle.validate.proofs.Order.{output-spans, point-spans, swing-spans}
 use Rattle.validate.proofs.Verdict.{count-is, refused-is, list-kept, by-network, by-lent, by-given}
@@ -77,12 +77,15 @@ module _ (ws : List ℕ) (xs x : List Float) (solver : Float) where
   pub given-ready : {l : Layout} → Laid ws xs l → Clear (faultGiven ws xs x solver) → Ready ws xs x l
   given-ready L c = ready L (point-given (or-left _ _ c))
 
-  pub check-cleared : (ts : List Float) {l : Layout} (lent : ℕ) → networkFault ws xs ≡ clear → Laid ws xs l → Clear (faultLent ws xs x solver ts lent)
-      → Clear (faultGiven ws xs x solver)
-      → Ready ws xs x l × (2 * l .buses + 4 * l .branches ≤ lent) × Cleared ws xs x solver (faultLent ws xs x solver ts lent)
-  check-cleared ts lent e L o g =
+  pub check-opened : (ts : List Float) {l : Layout} (lent : ℕ) → networkFault ws xs ≡ clear → Laid ws xs l → Clear (faultLent ws xs x solver ts lent)
+      → Clear (faultGiven ws xs x solver) → Opened ws xs x solver ts l lent
+  check-opened ts lent e L o g =
       let room = output-room lent (or-left _ (faultTolerance ts) o) in
-      (given-ready L g, omega (arith, count-is L, room), record { network = ap (λ f. f .number) e; lent = o; given = g })
+      record {
+        ready = given-ready L g;
+        room = omega (arith, count-is L, room);
+        cleared = record { network = ap (λ f. f .number) e; lent = o; given = g };
+      }
 
   -- ---- where they decide
 
@@ -98,24 +101,24 @@ module _ (ws : List ℕ) (xs x : List Float) (solver : Float) where
 
   module _ (ts before : List Float) {f : Fault} {r : Checked} (says : r ≡ refusal f) (refuses : f .number ≡ 0 → ⊥) where
     stop : f ≡ checkFault ws xs x solver ts (length before) → (f .number ≡ 16 → ⊥)
-        → (r ≡ checked ws xs x solver ts (length before)) × (before ≡ outputsAfter ws xs x solver ts before)
+        → Answers ws xs x solver ts before before r
     stop e l = (says ∙ refused-is ws xs x solver ts (length before) f e refuses l, list-kept ws xs x solver ts before f e refuses)
 
     number : {g : Fault} → f ≡ g → Clear g → ⊥
     number e z = refuses (ap (λ y. y .number) e ∙ z)
 
-    pub stop-network : f ≡ networkFault ws xs → (r ≡ checked ws xs x solver ts (length before)) × (before ≡ outputsAfter ws xs x solver ts before)
+    pub stop-network : f ≡ networkFault ws xs → Answers ws xs x solver ts before before r
     stop-network e =
         stop (e ∙ by-network ws xs x solver ts (length before) (number e)) (λ z. not-16 ws xs (number e) (sym (ap (λ y. y .number) e) ∙ z))
 
     pub stop-lent : networkFault ws xs ≡ clear → f ≡ faultLent ws xs x solver ts (length before)
-        → (r ≡ checked ws xs x solver ts (length before)) × (before ≡ outputsAfter ws xs x solver ts before)
+        → Answers ws xs x solver ts before before r
     stop-lent network e =
         stop (e ∙ by-lent ws xs x solver ts (length before) (ap (λ y. y .number) network) (number e))
         (λ z. lent-not-16 ts (length before) (number e) (sym (ap (λ y. y .number) e) ∙ z))
 
     pub stop-given : networkFault ws xs ≡ clear → Clear (faultLent ws xs x solver ts (length before)) → f ≡ faultGiven ws xs x solver
-        → (r ≡ checked ws xs x solver ts (length before)) × (before ≡ outputsAfter ws xs x solver ts before)
+        → Answers ws xs x solver ts before before r
     stop-given network output e =
         stop (e ∙ by-given ws xs x solver ts (length before) (ap (λ y. y .number) network) output (number e))
         (λ z. omega (arith, ap (λ y. y .number) e, given-spans .high (number e)))

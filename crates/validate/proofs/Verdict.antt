@@ -27,7 +27,7 @@ use Rattle.validate.specs.declared.Checked.{Checked}
 use Rattle.validate.specs.declared.measure.Measured.{Measured}
 use Rattle.validate.specs.Tolerances.{faultTolerance, faultResidual}
 use Rattle.validate.specs.Check.{Solved, solved, faultOutput, faultPoint, faultSwing, faultDerived, checkFault, checked, outputsAfter}
-use Rattle.validate.specs.contracts.Verdict.{faultLent, faultGiven, Cleared, Measures, refusal}
+use Rattle.validate.specs.contracts.Verdict.{faultLent, faultGiven, Cleared, Answers, Measures, refusal}
 use Rattle.validate.proofs.Tolerances.{residual-spans, eight-given}
 use Rattle.validate.proofs.Order.{derived-spans, check-is}
 
@@ -152,7 +152,7 @@ module _ {ws : List ℕ} {xs x : List Float} {solver : Float} {l : Layout} {scra
 
   -- 15
   pub says-15 : (r : Checked) → r ≡ refusal (m .fault) → (m .fault .number ≡ 0 → ⊥)
-      → (r ≡ checked ws xs x solver ts (length before)) × (before ≡ outputsAfter ws xs x solver ts before)
+      → Answers ws xs x solver ts before before r
   says-15 r e c =
       let refuses : Clear (faultDerived ws xs x solver (solved ws xs x solver)) → ⊥ = λ z. c (ap (λ f. f .number) (M .fault-is) ∙ z) in
       let k = M .fault-is ∙ by-derived ws xs x solver ts (length before) C refuses in
@@ -169,16 +169,14 @@ module _ {ws : List ℕ} {xs x : List Float} {solver : Float} {l : Layout} {scra
 
     -- 16
     pub says-16 : (f .number ≡ 0 → ⊥)
-        → (_≡_ {A = Checked} (record { fault = f; objective = zero64; residuals = m .residuals }) (checked ws xs x solver ts (length before)))
-        × (before ≡ outputsAfter ws xs x solver ts before)
+        → Answers ws xs x solver ts before before (record { fault = f; objective = zero64; residuals = m .residuals })
     says-16 c =
         (residual-answer ws xs x solver ts (length before) C f (m .residuals) (derived-clear z) residual c (M .residuals-are z), list-kept ws xs x solver ts before f whole c)
 
     -- accepted
     pub says-0 : (after : List Float) → f .number ≡ 0
         → after ≡ take (2 * l .buses + 4 * l .branches) scratch ++ drop (2 * l .buses + 4 * l .branches) before
-        → (_≡_ {A = Checked} (record { fault = clear; objective = m .objective; residuals = m .residuals }) (checked ws xs x solver ts (length before)))
-        × (after ≡ outputsAfter ws xs x solver ts before)
+        → Answers ws xs x solver ts before after (record { fault = clear; objective = m .objective; residuals = m .residuals })
     says-0 after c a =
         let h : Clear (checkFault ws xs x solver ts (length before)) = ap (λ y. y .number) (sym whole) ∙ c in (
           accepted-answer ws xs x solver ts (length before) C f (m .residuals) (m .objective) (derived-clear z) residual c (M .residuals-are z) (M .objective-is),

@@ -19,9 +19,8 @@ ghost use Rattle.base.specs.Fault.{clear};
 ghost use Rattle.network.specs.Layout.{Laid};
 ghost use Rattle.acopf.specs.Factor.{networkFault};
 ghost use Rattle.acopf.specs.Tallies.{Tallied};
-ghost use Rattle.derived.specs.contracts.Agree.{Ready};
 ghost use Rattle.validate.specs.Check.{checked, outputsAfter};
-ghost use Rattle.validate.specs.contracts.Verdict.{faultLent, Cleared, refusal};
+ghost use Rattle.validate.specs.contracts.Verdict.{Opened, Answers, refusal};
 
 fn refused(f: Fault) -> Checked
     ensures { λ r. ⌜ r ≡ refusal f ⌝ }
@@ -47,14 +46,10 @@ fn verdict(
     scratch: &mut [f64],
     outputs: &mut [f64],
 ) -> Checked
-    requires { ⌜ (Ready (now words) (now numbers) (now point) layout)
-        × (2 * layout .buses + 4 * layout .branches ≤ length (now scratch))
-        × (2 * layout .buses + 4 * layout .branches ≤ length (now outputs))
-        × (let ws = now words in let xs = now numbers in let x = now point in
-        Cleared ws xs x solver (faultLent ws xs x solver (now tolerances) (length (now outputs)))) ⌝ }
-    ensures { λ r. ⌜ (let ws = now (words .entry) in let xs = now (numbers .entry) in let x = now (point .entry) in
-        let ts = now (tolerances .entry) in let before = now (outputs .entry) in
-        (r ≡ checked ws xs x solver ts (length before)) × (now (outputs .exit) ≡ outputsAfter ws xs x solver ts before)) ⌝ }
+    requires { ⌜ (Opened (now words) (now numbers) (now point) solver (now tolerances) layout (length (now outputs)))
+        × (2 * layout .buses + 4 * layout .branches ≤ length (now scratch)) ⌝ }
+    ensures { λ r. ⌜ Answers (now (words .entry)) (now (numbers .entry)) (now (point .entry)) solver (now (tolerances .entry))
+        (now (outputs .entry)) (now (outputs .exit)) r ⌝ }
 {
     let measured = measure(words, numbers, point, layout, solver, scratch);
     let derived = measured.fault;
@@ -88,13 +83,9 @@ fn settled(
     tolerances: &[f64],
     outputs: &mut [f64],
 ) -> Checked
-    requires { ⌜ (Ready (now words) (now numbers) (now point) layout)
-        × (2 * layout .buses + 4 * layout .branches ≤ length (now outputs))
-        × (let ws = now words in let xs = now numbers in let x = now point in
-        Cleared ws xs x solver (faultLent ws xs x solver (now tolerances) (length (now outputs)))) ⌝ }
-    ensures { λ r. ⌜ (let ws = now (words .entry) in let xs = now (numbers .entry) in let x = now (point .entry) in
-        let ts = now (tolerances .entry) in let before = now (outputs .entry) in
-        (r ≡ checked ws xs x solver ts (length before)) × (now (outputs .exit) ≡ outputsAfter ws xs x solver ts before)) ⌝ }
+    requires { ⌜ Opened (now words) (now numbers) (now point) solver (now tolerances) layout (length (now outputs)) ⌝ }
+    ensures { λ r. ⌜ Answers (now (words .entry)) (now (numbers .entry)) (now (point .entry)) solver (now (tolerances .entry))
+        (now (outputs .entry)) (now (outputs .exit)) r ⌝ }
 {
     if 2 * layout.buses + 4 * layout.branches <= FEW_OUTPUTS {
         let mut few = [0.0; FEW_OUTPUTS];
@@ -135,9 +126,8 @@ fn check_point(
 ) -> Checked
     requires { ⌜ (networkFault (now words) (now numbers) ≡ clear) × (Laid (now words) (now numbers) layout)
         × (Tallied (now words) (now numbers) tallies) ⌝ }
-    ensures { λ r. ⌜ (let ws = now (words .entry) in let xs = now (numbers .entry) in let x = now (point .entry) in
-        let ts = now (tolerances .entry) in let before = now (outputs .entry) in
-        (r ≡ checked ws xs x solver ts (length before)) × (now (outputs .exit) ≡ outputsAfter ws xs x solver ts before)) ⌝ }
+    ensures { λ r. ⌜ Answers (now (words .entry)) (now (numbers .entry)) (now (point .entry)) solver (now (tolerances .entry))
+        (now (outputs .entry)) (now (outputs .exit)) r ⌝ }
 {
     let lent = lent_fault(
         outputs.len(),

@@ -1,3 +1,4 @@
+use mathlib.Core.Path.{ap}
 use borrow.Author.Needs.{needs}
 use Rattle.validate.proofs.boundary.fervoulk_objective.Statement.{statement}
 use Rattle.validate.proofs.boundary.fervoulk_objective.Tie as tie
@@ -9,7 +10,7 @@ same-length : tie.Need-same-length
 same-length c = search needs
 
 returns : tie.Need-returns
-returns c = (rw (c .before .before .check .ensures .0), c .before .before .check .ensures .1)
+returns c = let is = c .before .before .check .ensures in (ap (λ r. r .objective) (is .0), is .1)
 
 pub fervoulk-objective-spec : {M : Type 1} → statement M
 fervoulk-objective-spec = tie.close (tie.spec check-requires same-length returns)

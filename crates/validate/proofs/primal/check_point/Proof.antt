@@ -2,7 +2,7 @@ use native.Mathlib.Omega.{arith}
 use mathlib.Core.Path.{ap, sym, _∙_}
 use lib.ListN.{length}
 use Rattle.validate.proofs.Verdict.{count-is}
-use Rattle.validate.proofs.Entry.{few-columns, check-cleared, stop-lent, stop-given}
+use Rattle.validate.proofs.Entry.{few-columns, check-opened, stop-lent, stop-given}
 use borrow.Author.Needs.{needs}
 use Rattle.validate.proofs.primal.check_point.Statement.{statement}
 use Rattle.validate.proofs.primal.check_point.Tie as tie
@@ -68,7 +68,7 @@ settled-requires c κs =
     let solver = args .solver in
     let lent = c .before .before .before .before .before .before .lent-fault .ensures ws xs x solver (count-is (pre .1)) in
     let given = c .before .before .before .given-fault .ensures ws xs solver (pre .1 .words) (pre .2) in
-    check-cleared ws xs x solver (args .tolerances .now) (length (args .outputs .now)) (pre .0) (pre .1)
+    check-opened ws xs x solver (args .tolerances .now) (length (args .outputs .now)) (pre .0) (pre .1)
     (ap (λ f. f .number) (sym lent) ∙ c .before .before .before .before .if1 .left) (ap (λ f. f .number) (sym given) ∙ c .before .if2 .left)
 
 same-length : tie.Need-same-length

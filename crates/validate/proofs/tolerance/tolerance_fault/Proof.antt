@@ -21,7 +21,7 @@ abbrev μ-loop : tie.MeasureT-loop
 μ-loop tolerances i₀ i = 8 - i
 
 returns : tie.Need-returns Inv-loop μ-loop
-returns c = sym (count-place _ (c .if1 .taken))
+returns c = sym (count-place _ (λ e. omega (arith, e, c .if1 .taken)))
 
 loop-holds : tie.Need-loop-holds Inv-loop μ-loop
 loop-holds c = (omega arith, first-none _)
@@ -41,7 +41,7 @@ add-t10 c = search needs
 returns-2 : tie.Need-returns-2 Inv-loop μ-loop
 returns-2 c =
     test-here _ TOLERANCE _ _ _ (omega arith) (c .before .before .before .loop-test .taken) (sym (c .before .tolerance-right .ensures) ∙ not-true _ (c .if2 .taken)) (c .before .before .before .before .loop .inv .1)
-    ∙ sym (of-eight _ (c .before .before .before .before .before .if1 .left))
+    ∙ sym (of-eight _ (omega (arith, c .before .before .before .before .before .if1 .left)))
 
 add-i : tie.Need-add-i Inv-loop μ-loop
 add-i c = search needs
@@ -53,7 +53,7 @@ loop-again : tie.Need-loop-again Inv-loop μ-loop
 loop-again c = (omega arith, test-more _ TOLERANCE _ _ (sym (c .before .tolerance-right .ensures) ∙ not-false _ (c .if2 .left)) (c .before .before .before .before .loop .inv .1))
 
 returns-3 : tie.Need-returns-3 Inv-loop μ-loop
-returns-3 c = first-done _ _ _ (omega arith) (λ j. unless-proper _ TOLERANCE _ (omega arith)) (c .before .loop .inv .1) ∙ sym (of-eight _ (c .before .before .if1 .left))
+returns-3 c = first-done _ _ _ (omega arith) (λ j. unless-proper _ TOLERANCE _ (omega arith)) (c .before .loop .inv .1) ∙ sym (of-eight _ (omega (arith, c .before .before .if1 .left)))
 
 pub tolerance-fault-spec : {M : Type 1} → statement M
 tolerance-fault-spec =
