@@ -8,6 +8,7 @@ mod plain;
 
 use differential::networks::{self, Manner, Net, Sizes};
 use differential::random::Random;
+use differential::tolerances::PRIMAL;
 use differential::{balance, ours, reader};
 use std::hint::black_box;
 use std::time::Instant;
@@ -112,7 +113,7 @@ fn whole(net: &Net, x: &[f64], own: f64, sizes: Sizes, curves: bool) {
     let fdlibm_model = oracle_text::compile(&fdlibm).expect("a model");
     let platform_model = oracle_platform::compile(&platform).expect("a model");
     assert!(fdlibm_model.check(x, own).is_ok());
-    assert_eq!(ours::check(&words, &numbers, x, own, &mut outputs), 0);
+    assert_eq!(ours::check(&words, &numbers, x, own, &PRIMAL, &mut outputs), 0);
     let mut lists = lent(&words, &numbers);
     assert_eq!(compile_into(&words, &numbers, &mut lists), 0);
     let mut timed = vec![
@@ -120,7 +121,7 @@ fn whole(net: &Net, x: &[f64], own: f64, sizes: Sizes, curves: bool) {
         Timed::new(|| fdlibm_model.check(x, own)),
         Timed::new(|| oracle_platform::compile(&platform)),
         Timed::new(|| platform_model.check(x, own)),
-        Timed::new(|| ours::check(&words, &numbers, x, own, &mut outputs)),
+        Timed::new(|| ours::check(&words, &numbers, x, own, &PRIMAL, &mut outputs)),
         Timed::new(|| compile_into(&words, &numbers, &mut lists)),
     ];
     let times = measure(&mut timed);
@@ -164,8 +165,8 @@ fn exceeded(net: &Net, x: &[f64], own: f64) {
     let platform = oracle_platform::network(&words, &numbers).expect("a network");
     let model = oracle_platform::compile(&platform).expect("a model");
     assert!(model.check(x, own).is_err());
-    assert_eq!(ours::check(&words, &numbers, x, own, &mut outputs), 16 << 32 | 6);
-    let mut timed = vec![Timed::new(|| model.check(x, own)), Timed::new(|| ours::check(&words, &numbers, x, own, &mut outputs))];
+    assert_eq!(ours::check(&words, &numbers, x, own, &PRIMAL, &mut outputs), 16 << 32 | 6);
+    let mut timed = vec![Timed::new(|| model.check(x, own)), Timed::new(|| ours::check(&words, &numbers, x, own, &PRIMAL, &mut outputs))];
     let times = measure(&mut timed);
     println!("  every rating exceeded (16):");
     say("Rust, the platform's sine: validate_primal", times[0]);
@@ -204,19 +205,19 @@ fn parts(net: &Net, x: &[f64], own: f64) {
     let unlimited = without.words();
     let mut lists = vec![vec![0.0; needed]; 5];
     let [a, b, c, d, e] = &mut lists[..] else { unreachable!() };
-    assert!([7, 10].contains(&number(ours::check(&words, &last, x, own, a))));
-    assert_eq!(number(ours::check(&words, &numbers, x, own, &mut b[1..])), 12);
-    assert_eq!(number(ours::check(&words, &numbers, &far, own, c)), 14);
-    assert_eq!(number(ours::check(&words, &numbers, x, f64::INFINITY, d)), 15);
-    assert_eq!(number(ours::check(&unlimited, &numbers, x, own, e)), 0);
+    assert!([7, 10].contains(&number(ours::check(&words, &last, x, own, &PRIMAL, a))));
+    assert_eq!(number(ours::check(&words, &numbers, x, own, &PRIMAL, &mut b[1..])), 12);
+    assert_eq!(number(ours::check(&words, &numbers, &far, own, &PRIMAL, c)), 14);
+    assert_eq!(number(ours::check(&words, &numbers, x, f64::INFINITY, &PRIMAL, d)), 15);
+    assert_eq!(number(ours::check(&unlimited, &numbers, x, own, &PRIMAL, e)), 0);
     let mut f = vec![0.0; needed];
     let mut timed = vec![
-        Timed::new(|| ours::check(&words, &last, x, own, a)),
-        Timed::new(|| ours::check(&words, &numbers, x, own, &mut b[1..])),
-        Timed::new(|| ours::check(&words, &numbers, &far, own, c)),
-        Timed::new(|| ours::check(&words, &numbers, x, f64::INFINITY, d)),
-        Timed::new(|| ours::check(&unlimited, &numbers, x, own, e)),
-        Timed::new(|| ours::check(&words, &numbers, x, own, &mut f)),
+        Timed::new(|| ours::check(&words, &last, x, own, &PRIMAL, a)),
+        Timed::new(|| ours::check(&words, &numbers, x, own, &PRIMAL, &mut b[1..])),
+        Timed::new(|| ours::check(&words, &numbers, &far, own, &PRIMAL, c)),
+        Timed::new(|| ours::check(&words, &numbers, x, f64::INFINITY, &PRIMAL, d)),
+        Timed::new(|| ours::check(&unlimited, &numbers, x, own, &PRIMAL, e)),
+        Timed::new(|| ours::check(&words, &numbers, x, own, &PRIMAL, &mut f)),
     ];
     let times = measure(&mut timed);
     let at = |i: usize| times[i][0];
@@ -329,7 +330,7 @@ fn growth() {
         let mut timed = vec![
             Timed::new(|| oracle_text::compile(&tables)),
             Timed::new(|| model.check(&x, own)),
-            Timed::new(|| ours::check(&words, &numbers, &x, own, &mut outputs)),
+            Timed::new(|| ours::check(&words, &numbers, &x, own, &PRIMAL, &mut outputs)),
             Timed::new(|| compile_into(&words, &numbers, &mut lists)),
         ];
         let times = measure(&mut timed);

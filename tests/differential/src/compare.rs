@@ -1,6 +1,8 @@
 //! One case on both sides.
 
 use crate::cases::Case;
+use crate::random::Random;
+use crate::tolerances::{self, PRIMAL};
 use crate::{ours, rules};
 use oracle::{Answer, Compiled, Network, Refusal, TOLERANCE};
 use std::collections::BTreeMap;
@@ -22,6 +24,8 @@ pub struct Tally {
     pub zeros: BTreeMap<&'static str, u64>,
     /// Calls of the check with an output list too short.
     short_check: u64,
+    /// Points with tolerances that are not the text's, by the list and the answer.
+    own: BTreeMap<String, u64>,
 }
 
 /// The bits of NaN number i: both signs, quiet and signalling, each with a payload of its own.
@@ -112,7 +116,7 @@ pub fn case(case: &Case, number: u64, tally: &mut Tally) -> Vec<String> {
     let kept = (case.words.clone(), bits(&case.numbers), bits(&case.x));
     match (&refusal, &text) {
         (None, Text::Compiled(compiled)) => check_accepted(case, compiled, number, tally, &mut differences),
-        (Some(refusal), _) => check_refused(case, *refusal, tally, &mut differences),
+        (Some(refusal), _) => check_refused(case, *refusal, number, tally, &mut differences),
         _ => unreachable!("a network without a refusal is compiled"),
     }
     let (file, shared) = match &text {
@@ -155,7 +159,7 @@ fn network_kind(text: &Text) -> &'static str {
 }
 
 /// The check of a network that is refused: the output list stays as it was, at any length.
-fn check_refused(case: &Case, refusal: Refusal, tally: &mut Tally, differences: &mut Vec<String>) {
+fn check_refused(case: &Case, refusal: Refusal, number: u64, tally: &mut Tally, differences: &mut Vec<String>) {
     *tally.check.entry(refusal.0).or_default() += 1;
     if refusal.0 == 7 {
         let (n, k) = (buses(case), generators(case));
@@ -164,8 +168,9 @@ fn check_refused(case: &Case, refusal: Refusal, tally: &mut Tally, differences: 
     }
     let needed = 2 * buses(case) + 4 * of_kind(case, 4);
     for length in [0, needed, needed + 3] {
-        one_check(case, length, refusal, None, tally, differences);
+        one_check(case, &PRIMAL, length, refusal, None, tally, differences);
     }
+    own_tolerances(case, number, needed, refusal, None, tally, differences);
     for length in [0, 9] {
         one_report(case, length, refusal, None, differences);
     }
@@ -215,13 +220,14 @@ fn check_accepted(case: &Case, compiled: &Compiled, number: u64, tally: &mut Tal
         *tally.accepted.entry(size).or_default() += 1;
     }
     let answer = answered.answer.as_ref();
-    one_check(case, needed, refusal, answer, tally, differences);
-    one_check(case, needed + 3, refusal, answer, tally, differences);
+    one_check(case, &PRIMAL, needed, refusal, answer, tally, differences);
+    one_check(case, &PRIMAL, needed + 3, refusal, answer, tally, differences);
     // Every branch and bus has outputs: there is always one to leave out.
-    one_check(case, needed - 1, (12, 1), None, tally, differences);
+    one_check(case, &PRIMAL, needed - 1, (12, 1), None, tally, differences);
     if number % 64 == 0 {
-        one_check(case, 0, (12, 1), None, tally, differences);
+        one_check(case, &PRIMAL, 0, (12, 1), None, tally, differences);
     }
+    own_tolerances(case, number, needed, refusal, answer, tally, differences);
     one_report(case, 9, refusal, answer, differences);
     one_report(case, 12, refusal, answer, differences);
     one_report(case, 8, (12, 1), None, differences);
@@ -249,31 +255,95 @@ fn rated(case: &Case, answer: &Answer, n: usize, m: usize, tally: &mut Tally) {
     }
 }
 
-/// The check with an output list of this length, by all its functions.
-fn one_check(case: &Case, length: usize, refusal: Refusal, answer: Option<&Answer>, tally: &mut Tally, differences: &mut Vec<String>) {
-    let (words, numbers, x, solver) = (&case.words, &case.numbers, &case.x, case.solver);
-    let front: &[f64] = match answer {
+/// The check with tolerances that are not the text's: the first list by all functions, the others by the check alone.
+fn own_tolerances(
+    case: &Case,
+    number: u64,
+    needed: usize,
+    primal: Refusal,
+    answer: Option<&Answer>,
+    tally: &mut Tally,
+    differences: &mut Vec<String>,
+) {
+    let mut random = Random::new(number ^ case.solver.to_bits());
+    let residuals = answer.filter(|_| [0, 16].contains(&primal.0)).map(|answer| &answer.residuals);
+    for (i, list) in tolerances::lists(&mut random, residuals).into_iter().enumerate() {
+        let kept = bits(&list.tolerances);
+        let refusal = tolerances::refusal(primal, residuals, &list.tolerances);
+        if i == 0 {
+            one_check(case, &list.tolerances, needed, refusal, answer, tally, differences);
+        } else {
+            verdict(case, &list.tolerances, needed, refusal, answer, differences);
+        }
+        if !(1..=12).contains(&primal.0) {
+            // 12 comes before 20.
+            verdict(case, &list.tolerances, needed - 1, (12, 1), None, differences);
+            let number = if refusal.0 == 0 { "accepted".to_owned() } else { refusal.0.to_string() };
+            *tally.own.entry(format!("{}: {number}", list.what)).or_default() += 1;
+            if let (20, place) = refusal {
+                *tally.places.entry(format!("20: place {place}")).or_default() += 1;
+            }
+        }
+        if bits(&list.tolerances) != kept {
+            differences.push("the tolerances have changed".to_owned());
+        }
+    }
+}
+
+fn front(refusal: Refusal, answer: Option<&Answer>) -> &[f64] {
+    match answer {
         Some(answer) if refusal.0 == 0 => &answer.outputs,
         _ => &[],
-    };
+    }
+}
+
+/// The check itself, with these tolerances and an output list of this length. Answers whether number and place are right.
+fn verdict(
+    case: &Case,
+    tolerances: &[f64],
+    length: usize,
+    refusal: Refusal,
+    answer: Option<&Answer>,
+    differences: &mut Vec<String>,
+) -> bool {
     let mut lent = Lent::new(length);
-    let got = ours::check(words, numbers, x, solver, lent.list());
+    let got = ours::check(&case.words, &case.numbers, &case.x, case.solver, tolerances, lent.list());
+    if got != packed(refusal) {
+        let (number, place) = (got >> 32, got & 0xffff_ffff);
+        let with = format!("tolerances {tolerances:?}, {length} outputs lent");
+        differences.push(format!("check, {with}: {number} {place} and not {} {}", refusal.0, refusal.1));
+        return false;
+    }
+    if !lent.holds(front(refusal, answer)) {
+        differences.push(format!("check, {length} outputs lent, refusal {}: the list", refusal.0));
+    }
+    true
+}
+
+/// The check with these tolerances and an output list of this length, by all its functions.
+fn one_check(
+    case: &Case,
+    tolerances: &[f64],
+    length: usize,
+    refusal: Refusal,
+    answer: Option<&Answer>,
+    tally: &mut Tally,
+    differences: &mut Vec<String>,
+) {
+    let (words, numbers, x, solver) = (&case.words, &case.numbers, &case.x, case.solver);
+    let front = front(refusal, answer);
     if refusal.0 == 12 {
         tally.short_check += 1;
     }
-    if got != packed(refusal) {
-        differences.push(format!("check, {length} outputs lent: {} {} and not {} {}", got >> 32, got & 0xffff_ffff, refusal.0, refusal.1));
+    if !verdict(case, tolerances, length, refusal, answer, differences) {
         return;
-    }
-    if !lent.holds(front) {
-        differences.push(format!("check, {length} outputs lent, refusal {}: the list", refusal.0));
     }
     let objective = match answer {
         Some(answer) if refusal.0 == 0 => answer.objective,
         _ => 0.0,
     };
     let mut lent = Lent::new(length);
-    let got = ours::objective(words, numbers, x, solver, lent.list());
+    let got = ours::objective(words, numbers, x, solver, tolerances, lent.list());
     if got.to_bits() != objective.to_bits() {
         differences.push(format!("objective: {got:e} and not {objective:e}"));
     }
@@ -286,7 +356,7 @@ fn one_check(case: &Case, length: usize, refusal: Refusal, answer: Option<&Answe
             _ => 0.0,
         };
         let mut lent = Lent::new(length);
-        let got = ours::residual(words, numbers, x, solver, lent.list(), i);
+        let got = ours::residual(words, numbers, x, solver, tolerances, lent.list(), i);
         if got == 0.0 && residual == 0.0 && got.is_sign_positive() {
             if residual.is_sign_negative() {
                 *tally.zeros.entry("residuals that are -0 in the Rust").or_default() += 1;
@@ -343,6 +413,10 @@ impl Tally {
         }
         println!("\nby place:");
         for (kind, count) in &self.places {
+            println!("- {kind}: {count}");
+        }
+        println!("\nwith tolerances that are not the Rust's, by the list and the answer:");
+        for (kind, count) in &self.own {
             println!("- {kind}: {count}");
         }
         println!("\naccepted points by size:");

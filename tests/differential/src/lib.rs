@@ -11,5 +11,6 @@ pub mod ours;
 pub mod random;
 pub mod reader;
 pub mod rules;
+pub mod tolerances;
 pub mod value_cases;
 pub mod values;

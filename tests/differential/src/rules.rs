@@ -1,4 +1,4 @@
-//! Refusals 1 to 6 of a network file, read from document 01: the original text has none of them.
+//! Refusals 1 to 6 of a network file and 20 of a list of tolerances, read from documents 01 and 02: the original text has none of them.
 
 pub fn first_six(words: &[u32], numbers: &[f64]) -> Option<(u32, usize)> {
     if let Some(place) = wrong_word(words) {
@@ -99,4 +99,12 @@ fn past_limit(words: &[u32]) -> Option<usize> {
         .or_else(|| nth(4, 512))
         .or_else(|| nth(5, 256))
         .or_else(|| (0..words.len()).find(|&i| words[i] >> 28 == 3 && points(words[i]) > 9))
+}
+
+/// 20: "a list of other than eight (place 0) or a tolerance that is non-finite or below 0 (place 1 to 8, the first)".
+pub fn tolerance(list: &[f64]) -> Option<(u32, usize)> {
+    if list.len() != 8 {
+        return Some((20, 0));
+    }
+    list.iter().position(|t| !t.is_finite() || *t < 0.0).map(|i| (20, i + 1))
 }
