@@ -144,13 +144,14 @@ fn check_right(
     words: &[u32],
     numbers: &[f64],
     point: &[f64],
+    tolerances: &[f64],
     list: &mut [f64],
     lent: usize,
 ) -> bool
     requires { ⌜ (lent ≤ length (now list)) × (lent < 4294967296) × (i < 68719476736) ⌝ }
 {
     let solver = value(bytes, at, 8);
-    let answer = validate::check(words, numbers, point, solver, &[1e-6; 8], &mut list[..lent]);
+    let answer = validate::check(words, numbers, point, solver, tolerances, &mut list[..lent]);
     let residuals = answer.residuals;
     if !answer_right(bytes, at, answer.fault, answer.objective) {
         return false;
@@ -161,35 +162,37 @@ fn check_right(
     list_right(bytes, at, i, list, lent)
 }
 
+// A length of the record, in cell i. One that its array has no room for is none of data/answers, and counts as 0.
+fn length_at(bytes: &[u8], at: usize, i: usize, most: usize) -> usize
+    ensures { λ r. ⌜ r ≤ most ⌝ }
+{
+    let n = number(bytes, at, i);
+    if most < n {
+        return 0;
+    }
+    n
+}
+
 // A record of the check.
 fn point_right(bytes: &[u8], at: usize) -> bool {
-    let w = number(bytes, at, 2);
-    let n = number(bytes, at, 3);
-    let c = number(bytes, at, 4);
-    let lent = number(bytes, at, 5);
-    if WORDS < w {
-        return false;
-    }
-    if NUMBERS < n {
-        return false;
-    }
-    if NUMBERS < c {
-        return false;
-    }
-    if NUMBERS < lent {
-        return false;
-    }
-    let words = words_at(bytes, at, 18);
-    let numbers = values_at(bytes, at, 18 + w);
-    let point = values_at(bytes, at, 18 + w + n);
+    let w = length_at(bytes, at, 2, WORDS);
+    let n = length_at(bytes, at, 3, NUMBERS);
+    let c = length_at(bytes, at, 4, NUMBERS);
+    let lent = length_at(bytes, at, 5, NUMBERS);
+    let t = length_at(bytes, at, 18, NUMBERS);
+    let words = words_at(bytes, at, 19);
+    let numbers = values_at(bytes, at, 19 + w);
+    let point = values_at(bytes, at, 19 + w + n);
+    let tolerances = values_at(bytes, at, 19 + w + n + c);
     let mut list = [5.0; 256];
     check_right(
         bytes,
         at,
-        18 + w + n + c,
+        19 + w + n + c + t,
         &words[..w],
         &numbers[..n],
         &point[..c],
+        &tolerances[..t],
         &mut list,
         lent,
     )
@@ -329,14 +332,8 @@ fn compile_right(bytes: &[u8], at: usize, i: usize, words: &[u32], numbers: &[f6
 
 // A record of compile.
 fn model_right(bytes: &[u8], at: usize) -> bool {
-    let w = number(bytes, at, 2);
-    let n = number(bytes, at, 3);
-    if WORDS < w {
-        return false;
-    }
-    if NUMBERS < n {
-        return false;
-    }
+    let w = length_at(bytes, at, 2, WORDS);
+    let n = length_at(bytes, at, 3, NUMBERS);
     let words = words_at(bytes, at, 12);
     let numbers = values_at(bytes, at, 12 + w);
     compile_right(bytes, at, 12 + w + n, &words[..w], &numbers[..n])

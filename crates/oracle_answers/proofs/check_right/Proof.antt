@@ -9,14 +9,11 @@ use Rattle.oracle_answers.proofs.check_right.Tie as tie
 value-requires : tie.Need-value-requires
 value-requires c κs = search needs
 
-slice-aggregate-check : tie.Need-slice-aggregate-check
-slice-aggregate-check c = search needs
-
 slice-relend-prefix-check : tie.Need-slice-relend-prefix-check
 slice-relend-prefix-check c = search needs
 
-slice-aggregate-check-2 : tie.Need-slice-aggregate-check-2
-slice-aggregate-check-2 c = sym (length-take-le _ _ (c .before .before .before .before .before .before .before .before .pre .0))
+slice-aggregate-check : tie.Need-slice-aggregate-check
+slice-aggregate-check c = sym (length-take-le _ _ (c .before .before .before .before .before .before .before .before .pre .0))
 
 check-requires : tie.Need-check-requires
 check-requires c κs = search needs
@@ -53,9 +50,8 @@ check-right-spec =
     tie.close
     (tie.spec
     value-requires
-    slice-aggregate-check
     slice-relend-prefix-check
-    slice-aggregate-check-2
+    slice-aggregate-check
     check-requires
     answer-right-requires
     same-length

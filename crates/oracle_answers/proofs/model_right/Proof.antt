@@ -6,17 +6,11 @@ use borrow.Author.Needs.{needs}
 use Rattle.oracle_answers.proofs.model_right.Statement.{statement}
 use Rattle.oracle_answers.proofs.model_right.Tie as tie
 
-number-requires : tie.Need-number-requires
-number-requires c κs = search needs
+length-at-requires : tie.Need-length-at-requires
+length-at-requires c κs = search needs
 
-number-requires-2 : tie.Need-number-requires-2
-number-requires-2 c κs = search needs
-
-returns : tie.Need-returns
-returns c = search needs
-
-returns-2 : tie.Need-returns-2
-returns-2 c = search needs
+length-at-requires-2 : tie.Need-length-at-requires-2
+length-at-requires-2 c κs = search needs
 
 words-at-requires : tie.Need-words-at-requires
 words-at-requires c κs = search needs
@@ -37,28 +31,26 @@ array-share-prefix-words : tie.Need-array-share-prefix-words
 array-share-prefix-words c = search needs
 
 slice-aggregate-compile-right : tie.Need-slice-aggregate-compile-right
-slice-aggregate-compile-right c = sym (length-take-le _ _ (omega (arith, c .before .before .words-at .ensures)))
+slice-aggregate-compile-right c = sym (length-take-le _ _ (omega (arith, c .before .before .words-at .ensures, c .before .before .before .before .length-at .ensures)))
 
 array-share-prefix-numbers : tie.Need-array-share-prefix-numbers
 array-share-prefix-numbers c = search needs
 
 slice-aggregate-compile-right-2 : tie.Need-slice-aggregate-compile-right-2
-slice-aggregate-compile-right-2 c = sym (length-take-le _ _ (omega (arith, c .before .before .values-at .ensures)))
+slice-aggregate-compile-right-2 c = sym (length-take-le _ _ (omega (arith, c .before .before .values-at .ensures, c .before .before .before .before .length-at2 .ensures)))
 
 compile-right-requires : tie.Need-compile-right-requires
 compile-right-requires c κs = search needs
 
-returns-3 : tie.Need-returns-3
-returns-3 c = search needs
+returns : tie.Need-returns
+returns c = search needs
 
 pub model-right-spec : {M : Type 1} → statement M
 model-right-spec =
     tie.close
     (tie.spec
-    number-requires
-    number-requires-2
-    returns
-    returns-2
+    length-at-requires
+    length-at-requires-2
     words-at-requires
     add-values-at
     values-at-requires
@@ -69,4 +61,4 @@ model-right-spec =
     array-share-prefix-numbers
     slice-aggregate-compile-right-2
     compile-right-requires
-    returns-3)
+    returns)

@@ -8,37 +8,45 @@
 //!
 //! A record, in 64-bit little-endian cells, floats by their bits: 0 its length in cells, 1 kind.
 //! Kind 0, the check: 2 words, 3 numbers, 4 columns of the point, 5 length of the output list lent, 6 number, 7 place, 8 solver's
-//! objective, 9 objective, 10 to 17 residuals, then the words, one a cell, the numbers, the point, and the output list after the call.
+//! objective, 9 objective, 10 to 17 residuals, 18 tolerances, then the words, one a cell, the numbers, the point, the tolerances, and the
+//! output list after the call. A third of the candidates has the text's tolerances; with others 16 is by the text's residuals, and 20 by the paper.
 //! Kind 1, compile: 2 words, 3 numbers, 4 number, 5 place, 6 to 10 the counts of words, constants, columns, rows and shared parts, 11
 //! objective constant, then the words, one a cell, the numbers, and the fronts of the seven lists, of which the model words stand two
 //! a cell.
 //! Number lists are lent full of 5. No record lies across a multiple of 65,536 bytes: zeros fill the rest.
 
 use differential::cases::{self, Case};
-use differential::{random, rules};
+use differential::random::{self, Random};
+use differential::rules;
+use differential::tolerances::{self, List, PRIMAL};
 use oracle::{Answer, Network, Refusal};
 use oracle_text::File;
 use std::collections::BTreeSet;
 
 const CANDIDATES: u64 = 150_000;
-/// So many answers of the check, and of compile.
-const MOST: [usize; 2] = [330, 170];
+/// So many answers of the check, of the check with other tolerances than the text's, and of compile.
+const MOST: [usize; 3] = [330, 100, 170];
 /// So many answers should show a pair of features.
 const TIMES: u8 = 2;
+const PRIMAL_LIST: &str = "primal";
 const CHUNK: usize = 65_536 / 8;
 const LENT: f64 = 5.0;
-/// The room that the program has for words, numbers, a point and outputs; and for model words, constants, columns and rows.
+/// The room that the program has for words, numbers, a point and outputs (as much for tolerances); and for model words, constants, columns and rows.
 const ROOM: [usize; 4] = [32, 256, 256, 256];
 const MODEL_ROOM: [usize; 4] = [1024, 256, 64, 128];
 
 struct Stored {
     case: Case,
+    tolerances: Vec<f64>,
     lent: usize,
     refusal: Refusal,
     answer: Option<Answer>,
     /// Where compile refuses nothing.
     file: Option<File>,
+    /// None where the tolerances are not the text's.
     features: BTreeSet<String>,
+    /// The list and the answer, where they are not.
+    own: BTreeSet<String>,
     /// Those that compile sees.
     network: BTreeSet<String>,
 }
@@ -60,6 +68,9 @@ fn stored(case: Case, number: u64) -> Option<Stored> {
             }
         },
     };
+    let residuals = answer.as_ref().filter(|_| [0, 16].contains(&refusal.0)).map(|answer| &answer.residuals);
+    let List { tolerances, what } = list(number, residuals);
+    let refusal = tolerances::refusal(refusal, residuals, &tolerances);
     let lent = 2 * n + 4 * m + [0, 3][(number % 2) as usize];
     let lengths = [case.words.len(), case.numbers.len(), case.x.len(), lent];
     if lengths.iter().zip(ROOM).any(|(&length, room)| length > room) {
@@ -74,6 +85,7 @@ fn stored(case: Case, number: u64) -> Option<Stored> {
         (15, place) if place < 2 * n + 4 * m => format!("15 flow {}", (place - 2 * n) / m),
         (15, place) => format!("15 objective {}", place - 2 * n - 4 * m),
         (16, place) => format!("16 {place}"),
+        (20, place) => format!("20 {place}"),
         (number, _) => number.to_string(),
     };
     let own = features(&case, [n, k, m]);
@@ -88,7 +100,7 @@ fn stored(case: Case, number: u64) -> Option<Stored> {
     if file.is_some() {
         network.extend(with("compiled"));
     }
-    network.insert(if file.is_some() { "compiled".to_owned() } else { place });
+    network.insert(if file.is_some() { "compiled".to_owned() } else { place.clone() });
     if let Some(answer) = &answer {
         for (i, residual) in answer.residuals.iter().enumerate() {
             if (residual - oracle::TOLERANCE).abs() < 1e-12 {
@@ -96,7 +108,22 @@ fn stored(case: Case, number: u64) -> Option<Stored> {
             }
         }
     }
-    Some(Stored { case, lent, refusal, answer, file, features, network })
+    let mut own = BTreeSet::new();
+    if what != PRIMAL_LIST {
+        own = BTreeSet::from([format!("tolerances {what}"), place]);
+        features.clear();
+    }
+    Some(Stored { case, tolerances, lent, refusal, answer, file, features, own, network })
+}
+
+/// The text's tolerances for every third case, else any of the lists that a case has.
+fn list(number: u64, residuals: Option<&[f64; 8]>) -> List {
+    if number % 3 == 0 {
+        return List { tolerances: PRIMAL.to_vec(), what: PRIMAL_LIST.to_owned() };
+    }
+    let mut random = Random::new(number);
+    let mut lists = tolerances::lists(&mut random, residuals);
+    lists.swap_remove(random.below(lists.len()))
 }
 
 fn features(case: &Case, [n, k, m]: [usize; 3]) -> BTreeSet<String> {
@@ -175,7 +202,7 @@ fn features(case: &Case, [n, k, m]: [usize; 3]) -> BTreeSet<String> {
 }
 
 fn record(stored: &Stored) -> Vec<u64> {
-    let Stored { case, lent, refusal, answer, .. } = stored;
+    let Stored { case, tolerances, lent, refusal, answer, .. } = stored;
     let mut objective = 0.0;
     let mut residuals = [0.0; 8];
     let mut outputs = vec![LENT; *lent];
@@ -193,8 +220,9 @@ fn record(stored: &Stored) -> Vec<u64> {
     cells.extend([case.words.len(), case.numbers.len(), case.x.len(), *lent].map(|length| length as u64));
     cells.extend([refusal.0 as u64, refusal.1 as u64, case.solver.to_bits(), objective.to_bits()]);
     cells.extend(residuals.map(f64::to_bits));
+    cells.push(tolerances.len() as u64);
     cells.extend(case.words.iter().map(|&word| word as u64));
-    cells.extend(case.numbers.iter().chain(&case.x).chain(&outputs).map(|value| value.to_bits()));
+    cells.extend(case.numbers.iter().chain(&case.x).chain(tolerances).chain(&outputs).map(|value| value.to_bits()));
     cells[0] = cells.len() as u64;
     cells
 }
@@ -276,6 +304,8 @@ fn main() {
     all.sort_by_key(|stored| (stored.case.numbers.len(), stored.case.x.len()));
     let features: Vec<&BTreeSet<String>> = all.iter().map(|stored| &stored.features).collect();
     let checks = choose("the check", &features, MOST[0]);
+    let features: Vec<&BTreeSet<String>> = all.iter().map(|stored| &stored.own).collect();
+    let own = choose("the check with other tolerances", &features, MOST[1]);
     let none = BTreeSet::new();
     let fits = |file: &File| {
         let lengths = [file.words.len(), file.constants.len(), file.lower.len(), file.row_lower.len()];
@@ -285,8 +315,8 @@ fn main() {
     let network = |stored: &'_ Stored| stored.file.as_ref().map_or(true, fits);
     let networks = all.iter().map(|stored| if network(stored) { &stored.network } else { &none });
     let networks: Vec<&BTreeSet<String>> = networks.collect();
-    let models = choose("compile", &networks, MOST[1]);
-    let records = checks.iter().map(|&i| record(&all[i])).chain(models.iter().map(|&i| compiled_record(&all[i])));
+    let models = choose("compile", &networks, MOST[2]);
+    let records = checks.iter().chain(&own).map(|&i| record(&all[i])).chain(models.iter().map(|&i| compiled_record(&all[i])));
     let mut cells: Vec<u64> = Vec::new();
     for record in records {
         let left = CHUNK - cells.len() % CHUNK;
