@@ -3,14 +3,14 @@ use mathlib.Core.Path.{_≡_, refl, ap, sym, _∙_}
 use mathlib.Core.List.{List, [], _∷_, _++_}
 use mathlib.Core.Bool.{Bool, true, false, cond, not}
 use mathlib.Core.Logic.{_↔_}
-use Prim.Native.Nat.{ℕ, zero, suc, _+_, _-_, _<_}
+use Prim.Native.Nat.{ℕ, zero, suc, _+_}
 use native.Mathlib.Omega.{arith}
 use native.Mathlib.Nat.{zero-add}
 use lib.ListN.{length, getD}
 use lib.Dec.{eqb}
-use lib.Ieee.{Float, nan, lt, ofBits}
-use borrow.Author.Tests.{leb-true, le-leb, eqb-true, eq-eqb, not-true}
-use Rattle.base.proofs.Firsts.{Clear, Proper, or-left, or-right, or-clear, or-proper, unless-true, unless-clear, unless-proper, first-clear, all-clear, first-proper}
+use lib.Ieee.{Float, nan, lt}
+use borrow.Author.Tests.{leb-true, le-leb, eqb-true, eq-eqb}
+use Rattle.base.proofs.Firsts.{Clear, or-left, or-right, or-clear, unless-true, unless-clear, unless-proper, first-clear, all-clear, first-proper}
 use Rattle.base.proofs.Loops.{Every, every-nil, every-cons, all-at}
 use Rattle.base.specs.Fault.{clear, fault, unless}
 use Rattle.base.specs.declared.Fault.{Fault}
@@ -28,7 +28,7 @@ use Rattle.accepted.specs.Accepted.{NotAbove, Accepted}
 use Rattle.validate.specs.declared.Checked.{Checked}
 use Rattle.validate.specs.Tolerances.{faultTolerance, faultResidual}
 use Rattle.validate.specs.Check.{Solved, solved, faultOutput, faultPoint, faultSwing, faultDerived, faultOf, checkFault, checked}
-use Rattle.validate.proofs.Tolerances.{right-tolerance, eight-given, each-right, right-clear, none-above, above-none}
+use Rattle.validate.proofs.Tolerances.{tolerances-not-below, eight-given, each-right, right-clear, none-above, above-none}
 use Rattle.validate.proofs.Order.{check-is, check-proper}
 use Rattle.derived.specs.Outputs.{ownObjective, flows, outputs}
 use Rattle.residuals.specs.Residuals.{activeBalance, reactiveBalance, thermalLimits, variableBounds, referenceAngles, angleLimits, epigraphs, objectiveDifference, residuals}
@@ -84,7 +84,7 @@ module _ (ws : List ℕ) (xs x : List Float) (solver : Float) where
           let c1′ = or-right (faultOutput ws xs x solver lent) _ c1 in
           let tolerances = or-left (faultTolerance ts) _ c1′ in
           let c2 = or-right (faultTolerance ts) _ c1′ in
-          let z : (i : ℕ) → i < 8 → lt (getD ts i nan) zero64 ≡ false = λ i l. right-tolerance _ (each-right ts tolerances i l) .1 in
+          let z = tolerances-not-below ts (each-right ts tolerances) in
           let point = or-left (faultPoint ws xs x solver) _ c2 in
           let c3 = or-right (faultPoint ws xs x solver) _ c2 in
           let swing = or-left (faultSwing ws xs x solver) _ c3 in
@@ -118,7 +118,7 @@ module _ (ws : List ℕ) (xs x : List Float) (solver : Float) where
       means-accepted : Accepted ws xs x solver ts lent → Clear (checkFault ws xs x solver ts lent)
       unfolding faultOutput faultPoint pointFault faultSwing solved residuals activeBalance reactiveBalance variableBounds referenceAngles angleLimits thermalLimits epigraphs objectiveDifference
       means-accepted a =
-          let z : (i : ℕ) → i < 8 → lt (getD ts i nan) zero64 ≡ false = λ i l. right-tolerance _ (a .sound .tolerances-right i l) .1 in
+          let z = tolerances-not-below ts (a .sound .tolerances-right) in
           ap (λ f. f .number) (check-is ws xs x solver ts lent) ∙
           or-clear (networkFault ws xs) _ (ap (λ f. f .number) (a .sound .network))
           (or-clear (faultOutput ws xs x solver lent) _ (test _ _ (le-leb _ _ (a .sound .room)))

@@ -7,7 +7,7 @@ use Prim.Native.Nat.{ℕ, _+_, _<_}
 use native.Mathlib.Omega.{arith}
 use lib.ListN.{getD}
 use lib.Dec.{T, eqb}
-use lib.Ieee.{Float, nan, inf, binary64, fits, isNan, lt, ofBits}
+use lib.Ieee.{Float, nan, inf, binary64, fits, lt, ofBits}
 use lib.Ieee.Fits.{add-fits, sub-fits}
 use Rattle.base.specs.Fault.{clear}
 use Rattle.base.proofs.Loops.{getD-table, Block, loop-keeps, tally-counts}
@@ -28,7 +28,7 @@ use Rattle.acopf.proofs.Counts.{lower-columns, upper-columns}
 use Rattle.acopf.proofs.Right.{tables-clear, lower-finite, upper-finite, slope-finite, intercept-finite}
 use Rattle.accepted.specs.Accepted.{Sound, Kept, Accepted, AtMost, NotAbove}
 use Rattle.validate.specs.Check.{checkFault, checked}
-use Rattle.validate.proofs.Tolerances.{right-tolerance}
+use Rattle.validate.proofs.Tolerances.{tolerances-finite, tolerances-not-below}
 use Rattle.derived.specs.Outputs.{va, pg, epigraph, withdrawn, pInjection, qInjection, ownObjective, flows, pFrom, qFrom, pTo, qTo, outputs}
 use Rattle.residuals.specs.Residuals.{pBalance, qBalance}
 use Rattle.accepted.proofs.Accepts.{accepted-exactly, answered-exactly, within-violation, within-cut}
@@ -100,10 +100,10 @@ module _ (ws : List ℕ) (xs x : List Float) (solver : Float) (ts : List Float) 
 
   -- each tolerance is a number and not below 0, so that what is not above it is at most it
   tolerance-number : (i : ℕ) → i < 8 → Number (getD ts i nan)
-  tolerance-number i l = finite-number _ (right-tolerance _ (A .sound .tolerances-right i l) .0)
+  tolerance-number i l = finite-number _ (tolerances-finite ts (A .sound .tolerances-right) i l)
 
   zero-not : (i : ℕ) → i < 8 → lt (getD ts i nan) zero64 ≡ false
-  zero-not i l = right-tolerance _ (A .sound .tolerances-right i l) .1
+  zero-not = tolerances-not-below ts (A .sound .tolerances-right)
 
   within-at-most : (i : ℕ) → i < 8 → (v : Float) → Number v → NotAbove (getD ts i nan) v → AtMost (getD ts i nan) v
   within-at-most i l v n w = at-most (getD ts i nan) v (tolerance-number i l) n w
@@ -195,7 +195,7 @@ most-within t v h = most-not v t (rw h tt)
 module _ (ws : List ℕ) (xs x : List Float) (solver : Float) (ts : List Float) (lent : ℕ) where
   pub kept-accepted : Sound ws xs x solver ts lent → Kept ws xs x solver ts → Accepted ws xs x solver ts lent
   kept-accepted sound K =
-      let z : (i : ℕ) → i < 8 → lt (getD ts i nan) zero64 ≡ false = λ i l. right-tolerance _ (sound .tolerances-right i l) .1 in
+      let z = tolerances-not-below ts (sound .tolerances-right) in
       record {
         sound = sound;
         active = λ i l. most-within _ _ (K .active i l);

@@ -1,15 +1,14 @@
 -- The Rust's own test, `residuals.max_violation() > PRIMAL_TOLERANCE` (000), refuses exactly where 16 does with eight tolerances of 1e-6.
-use mathlib.Core.Path.{_≡_, ap}
+use mathlib.Core.Path.{_≡_}
 use mathlib.Core.List.{List}
 use mathlib.Core.Logic.{_↔_}
-use mathlib.Core.Bool.{false, not}
+use mathlib.Core.Bool.{false}
 use Prim.Native.Nat.{ℕ, _<_}
 use native.Mathlib.Omega.{arith}
 use native.Mathlib.Nat.{zero-add}
 use lib.ListN.{getD}
 use lib.Ieee.{Float, nan, lt}
-use borrow.Author.Tests.{not-true}
-use Rattle.base.proofs.Firsts.{Clear, unless-true, unless-clear, first-clear, all-clear}
+use Rattle.base.proofs.Firsts.{Clear}
 use Rattle.base.proofs.Loops.{Every, every-nil, every-cons, all-at}
 use Rattle.float.proofs.Above.{maximum-law}
 use Rattle.float.specs.Number.{maximum}

@@ -7,13 +7,13 @@ use Prim.Native.Nat.{ℕ, zero, suc, _+_, _≤_, _<_}
 use native.Mathlib.Omega.{arith}
 use lib.ListN.{length, getD}
 use lib.Dec.{eqb, leb}
-use lib.Ieee.{Float, nan, inf, fin, lt, isNan, ofBits}
+use lib.Ieee.{Float, nan, inf, fin, lt, isNan}
 use borrow.Author.Tests.{le-leb, leb-true, leb-false, eq-eqb, not-true}
 use Rattle.base.proofs.Firsts.{Clear, or-go, or-clear, unless-clear, unless-true, all-clear, first-clear, first-fails}
 use Rattle.base.proofs.Loops.{Block}
 use Rattle.base.specs.Fault.{fault, unless}
 use Rattle.base.specs.declared.Fault.{Fault}
-use Rattle.float.specs.Number.{zero64, isFinite, absolute}
+use Rattle.float.specs.Number.{isFinite, absolute}
 use Rattle.float.proofs.Really.{Number}
 use Rattle.network.specs.Network.{buses, columns}
 use Rattle.lists.specs.Finite.{firstNonFinite, pointFault}
@@ -23,7 +23,7 @@ use Rattle.derived.proofs.Outputs.{outputs-at}
 use Rattle.residuals.specs.Residuals.{pBalance, qBalance, activeBalance, reactiveBalance, residuals}
 use Rattle.validate.specs.Tolerances.{faultAbove, faultResidual}
 use Rattle.validate.specs.Check.{solved, faultOutput, faultPoint, faultSwing, checkFault}
-use Rattle.validate.proofs.Tolerances.{right-tolerance, right-clear}
+use Rattle.validate.proofs.Tolerances.{tolerances-finite, tolerances-not-below, right-clear}
 use Rattle.validate.proofs.Order.{check-is}
 use Rattle.accepted.specs.Accepted.{Sound, NotAbove}
 use Rattle.accepted.proofs.Accepts.{derived-exactly}
@@ -73,26 +73,20 @@ module _ (ws : List ℕ) (xs x : List Float) (solver : Float) (ts : List Float) 
           go true e = leb-true k j e
           go false e = absurd (g (omega (arith, leb-false k j e)))
 
-  finite : (i : ℕ) → i < 8 → isFinite (getD ts i nan) ≡ true
-  finite i l = right-tolerance _ (S .tolerances-right i l) .0
-
-  zero-not : (i : ℕ) → i < 8 → lt (getD ts i nan) zero64 ≡ false
-  zero-not i l = right-tolerance _ (S .tolerances-right i l) .1
-
   -- a residual of balances is above its tolerance where one of them is not finite
   active-above : (i : ℕ) → i < buses ws → isFinite (pBalance ws xs x (flows ws xs x) i) ≡ false → lt (getD ts 0 nan) (activeBalance ws xs x (flows ws xs x)) ≡ false → ⊥
   unfolding activeBalance pBalance
   active-above i l h w =
       let P = outputs-at ws xs x (flows ws xs x) in
       let n = withdrawn-number ws i (pFrom (flows ws xs x)) (pTo (flows ws xs x)) (pInjection ws xs x i) (block-finite (P .p-injections) i l) (block-finite (P .p-from)) (block-finite (P .p-to)) in
-      above-finite (getD ts 0 nan) (pBalance ws xs x (flows ws xs x) i) (finite 0 (omega arith)) n h (largest-law (getD ts 0 nan) (zero-not 0 (omega arith)) (buses ws) _ .0 w i l)
+      above-finite (getD ts 0 nan) (pBalance ws xs x (flows ws xs x) i) (tolerances-finite ts (S .tolerances-right) 0 (omega arith)) n h (largest-law (getD ts 0 nan) (tolerances-not-below ts (S .tolerances-right) 0 (omega arith)) (buses ws) _ .0 w i l)
 
   reactive-above : (i : ℕ) → i < buses ws → isFinite (qBalance ws xs x (flows ws xs x) i) ≡ false → lt (getD ts 1 nan) (reactiveBalance ws xs x (flows ws xs x)) ≡ false → ⊥
   unfolding reactiveBalance qBalance
   reactive-above i l h w =
       let P = outputs-at ws xs x (flows ws xs x) in
       let n = withdrawn-number ws i (qFrom (flows ws xs x)) (qTo (flows ws xs x)) (qInjection ws xs x i) (block-finite (P .q-injections) i l) (block-finite (P .q-from)) (block-finite (P .q-to)) in
-      above-finite (getD ts 1 nan) (qBalance ws xs x (flows ws xs x) i) (finite 1 (omega arith)) n h (largest-law (getD ts 1 nan) (zero-not 1 (omega arith)) (buses ws) _ .0 w i l)
+      above-finite (getD ts 1 nan) (qBalance ws xs x (flows ws xs x) i) (tolerances-finite ts (S .tolerances-right) 1 (omega arith)) n h (largest-law (getD ts 1 nan) (tolerances-not-below ts (S .tolerances-right) 1 (omega arith)) (buses ws) _ .0 w i l)
 
   -- at a point that 1 to 15 and 20 do not refuse, whichever the tolerances, an active balance that is not finite gives 16, place 1
   pub active-overflow-16 : (i : ℕ) → i < buses ws → isFinite (pBalance ws xs x (flows ws xs x) i) ≡ false → checkFault ws xs x solver ts lent ≡ fault 16 1

@@ -32,7 +32,7 @@ use Rattle.derived.specs.Outputs.{va, pg, epigraph, ownObjective, flows, pFrom,
 use Rattle.derived.proofs.Outputs.{outputs-at}
 use Rattle.validate.specs.Tolerances.{tiny64}
 use Rattle.validate.specs.Check.{checked}
-use Rattle.validate.proofs.Tolerances.{right-tolerance}
+use Rattle.validate.proofs.Tolerances.{tolerances-finite}
 use Rattle.accepted.specs.Accepted.{Sound, Kept}
 use Rattle.accepted.proofs.Kept.{flow-fits, answered-exactly-kept}
 use Rattle.accepted.proofs.Obeyed.{obeyed-exactly}
@@ -63,7 +63,7 @@ module _ (ws : List ℕ) (xs x : List Float) (solver : Float) (ts : List Float) 
 
   module _ (S : Sound ws xs x solver ts lent) (K : Kept ws xs x solver ts) where
     tolerance-finite : (i : ℕ) → i < 8 → isFinite (getD ts i nan) ≡ true
-    tolerance-finite i l = right-tolerance _ (S .tolerances-right i l) .0
+    tolerance-finite = tolerances-finite ts (S .tolerances-right)
 
     -- what stands in the outputs is finite
     block-finite : {k n : ℕ} {f : ℕ → Float} → Block (outputs ws xs x F) k n f → (j : ℕ) → j < n → isFinite (f j) ≡ true

@@ -6,7 +6,7 @@ use mathlib.Core.Bool.{true, not}
 use mathlib.Core.List.{List}
 use lib.ListN.{length, getD, getD-replicate}
 use lib.Ieee.{Float, nan, lt, ofBits}
-use Rattle.base.specs.Fault.{fault, unless, orElse, left}
+use Rattle.base.specs.Fault.{fault, unless, left}
 use Rattle.base.specs.Refusal.{RESIDUAL}
 use Rattle.base.proofs.Firsts.{Clear, or-go}
 use Rattle.base.proofs.Scans.{first-same}

@@ -13,7 +13,7 @@ use Rattle.float.proofs.Really.{finite-number}
 use Rattle.validate.specs.Tolerances.{faultTolerance, faultResidual}
 use Rattle.acopf.specs.Factor.{networkFault}
 use Rattle.validate.specs.Check.{solved, faultOutput, faultPoint, faultSwing, faultDerived, checkFault, checked, answered}
-use Rattle.validate.proofs.Tolerances.{right-tolerance, each-right, none-above, above-none}
+use Rattle.validate.proofs.Tolerances.{tolerances-finite, each-right, none-above, above-none}
 use Rattle.validate.proofs.Order.{check-is, check-proper}
 use Rattle.accepted.proofs.Floats.{most-not}
 use Rattle.own_tolerances.specs.Wider.{Wider, Same}
@@ -26,7 +26,7 @@ module _ (ts us : List Float) (W : Wider ts us) where
   -- a residual that is not above the one is not above the other
   above-clear : Clear (faultTolerance ts) → (residuals : List Float) → Clear (faultResidual ts residuals) → Clear (faultResidual us residuals)
   above-clear right residuals c = above-none _ _ (λ i l.
-      not-above (getD us i nan) (getD residuals i nan) (getD ts i nan) (finite-number _ (right-tolerance _ (each-right ts right i l) .0))
+      not-above (getD us i nan) (getD residuals i nan) (getD ts i nan) (finite-number _ (tolerances-finite ts (each-right ts right) i l))
       (none-above _ _ c i l) (most-not (getD ts i nan) (getD us i nan) (subst T (sym (W .each i l)) tt)))
 
   module _ (ws : List ℕ) (xs x : List Float) (solver : Float) where

@@ -1,5 +1,5 @@
 -- Refusals 20 and 16: their numbers and places, and what a list is that 20 passes.
-use mathlib.Core.Path.{_≡_, refl, ap, sym}
+use mathlib.Core.Path.{_≡_, refl, ap}
 use mathlib.Core.Bool.{Bool, true, false, not, _&&_, false≢true}
 use mathlib.Core.List.{List}
 use Prim.Native.Nat.{ℕ, _+_, _<_}
@@ -10,7 +10,7 @@ use lib.Ieee.{Float, nan, lt}
 use borrow.Author.Tests.{eqb-true, eq-eqb, ne-eqb, not-true}
 use Rattle.base.specs.Fault.{fault, unless, orElse, first}
 use Rattle.base.specs.Refusal.{RESIDUAL, TOLERANCE}
-use Rattle.base.proofs.Firsts.{Clear, Proper, Spans, spans-unless, spans-or, spans-first, or-go, or-left, or-right, or-clear, or-proper}
+use Rattle.base.proofs.Firsts.{Clear, Proper, Spans, spans-unless, spans-or, spans-first, or-go, or-left, or-right, or-clear}
 use Rattle.base.proofs.Firsts.{unless-true, unless-clear, unless-proper, first-clear, all-clear, first-proper, FirstFail, first-fails}
 use Rattle.float.specs.Number.{zero64, isFinite}
 use Rattle.validate.specs.Tolerances.{toleranceRight, faultTolerance, faultAbove}
@@ -49,23 +49,22 @@ both true false h = (refl, refl)
 both false b h = absurd (false≢true h)
 
 -- a tolerance that 20 passes is finite and not below 0
-pub right-tolerance : (t : Float) → toleranceRight t ≡ true → (isFinite t ≡ true) × (lt t zero64 ≡ false)
+right-tolerance : (t : Float) → toleranceRight t ≡ true → (isFinite t ≡ true) × (lt t zero64 ≡ false)
 unfolding toleranceRight
 right-tolerance t h = both (isFinite t) (lt t zero64) h
 
-pub tolerance-right : (t : Float) → isFinite t ≡ true → lt t zero64 ≡ false → toleranceRight t ≡ true
-unfolding toleranceRight
-tolerance-right t f z = rw (f, z)
+module _ (ts : List Float) (right : (i : ℕ) → i < 8 → toleranceRight (getD ts i nan) ≡ true) where
+  pub tolerances-finite : (i : ℕ) → i < 8 → isFinite (getD ts i nan) ≡ true
+  tolerances-finite i l = right-tolerance _ (right i l) .0
+
+  pub tolerances-not-below : (i : ℕ) → i < 8 → lt (getD ts i nan) zero64 ≡ false
+  tolerances-not-below i l = right-tolerance _ (right i l) .1
 
 module _ (ts : List Float) where
   pub tolerance-spans : Spans TOLERANCE TOLERANCE (faultTolerance ts)
   unfolding faultTolerance
   tolerance-spans =
       spans-or (spans-unless _ TOLERANCE _ (omega arith) (omega arith)) (spans-first _ (λ i. spans-unless _ TOLERANCE _ (omega arith) (omega arith)))
-
-  pub tolerance-proper : Proper (faultTolerance ts)
-  unfolding faultTolerance
-  tolerance-proper = or-proper _ _ (first-proper _ _ (λ i. unless-proper _ TOLERANCE _ (omega arith)))
 
   -- a list of other than eight: place 0, whatever is in it
   pub count-place : (length ts ≡ 8 → ⊥) → faultTolerance ts ≡ fault TOLERANCE 0

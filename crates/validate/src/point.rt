@@ -14,7 +14,7 @@ ghost use Rattle.network.specs.Limits.{mostBuses, mostGenerators};
 ghost use Rattle.network.specs.Layout.{LaidWords};
 ghost use Rattle.network.specs.Network.{buses, branches, columns};
 ghost use Rattle.acopf.specs.Tallies.{Tallied};
-ghost use Rattle.validate.specs.Check.{faultOutput, faultPoint, faultSwing};
+ghost use Rattle.validate.specs.Check.{faultOutput, faultSwing};
 ghost use Rattle.validate.specs.contracts.Verdict.{faultLent, faultGiven};
 
 // 12, where there are `count` outputs.

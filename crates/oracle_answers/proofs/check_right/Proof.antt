@@ -1,6 +1,5 @@
 -- `oracle_answers::check_right` is safe.
 use mathlib.Core.Path.{sym}
-use native.Mathlib.Omega.{arith}
 use lib.Seq.{length-take-le}
 use borrow.Author.Needs.{needs}
 use Rattle.oracle_answers.proofs.check_right.Statement.{statement}
