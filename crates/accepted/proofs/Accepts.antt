@@ -144,7 +144,7 @@ module _ (ws : List ℕ) (xs x : List Float) (solver : Float) where
       accepted-exactly = (accepted-means, λ a. check-proper ws xs x solver ts lent (means-accepted a))
 
       -- the answer's number is the refusal's
-      answer-number : checked ws xs x solver ts lent .fault .number ≡ checkFault ws xs x solver ts lent .number
+      pub answer-number : checked ws xs x solver ts lent .fault .number ≡ checkFault ws xs x solver ts lent .number
       unfolding checked checkFault
       answer-number = one-of-two (faultOf ws xs x solver ts lent S .number) _ _ refl refl
 

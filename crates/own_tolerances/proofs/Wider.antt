@@ -6,7 +6,7 @@ use lib.ListN.{length, getD}
 use lib.Dec.{T}
 use lib.Ieee.{Float, nan}
 use Rattle.base.specs.declared.Fault.{Fault}
-use Rattle.base.specs.Fault.{clear, orElse, left}
+use Rattle.base.specs.Fault.{orElse, left}
 use Rattle.base.proofs.Firsts.{Clear, or-left, or-right, or-clear}
 use Rattle.float.proofs.Above.{not-above}
 use Rattle.float.proofs.Really.{finite-number}
@@ -15,6 +15,7 @@ use Rattle.acopf.specs.Factor.{networkFault}
 use Rattle.validate.specs.Check.{solved, faultOutput, faultPoint, faultSwing, faultDerived, checkFault, checked, answered}
 use Rattle.validate.proofs.Tolerances.{tolerances-finite, each-right, none-above, above-none}
 use Rattle.validate.proofs.Order.{check-is, check-proper}
+use Rattle.accepted.proofs.Accepts.{answer-number}
 use Rattle.accepted.proofs.Floats.{most-not}
 use Rattle.own_tolerances.specs.Wider.{Wider, Same}
 
@@ -41,11 +42,13 @@ module _ (ts us : List Float) (W : Wider ts us) where
         (ap (λ f. f .number) (sym (check-is ws xs x solver ts lent)) ∙ c)
 
     -- an accepted point stays accepted, with the same answer and the same outputs
-    pub wider-accepts : (before : List Float) → checkFault ws xs x solver ts (length before) ≡ clear → Same ws xs x solver ts us before
+    pub wider-accepts : (before : List Float) → checked ws xs x solver ts (length before) .fault .number ≡ 0 → Same ws xs x solver ts us before
     unfolding checked checkFault
-    wider-accepts before c =
-        let k = check-proper ws xs x solver us (length before) (still-clear (length before) (ap (λ f. f .number) c)) in
-        let same : checkFault ws xs x solver us (length before) ≡ checkFault ws xs x solver ts (length before) = k ∙ sym c in
+    wider-accepts before z =
+        let c = sym (answer-number ws xs x solver ts (length before)) ∙ z in
+        let wide = check-proper ws xs x solver us (length before) (still-clear (length before) c) in
+        let narrow = check-proper ws xs x solver ts (length before) c in
+        let same : checkFault ws xs x solver us (length before) ≡ checkFault ws xs x solver ts (length before) = wide ∙ sym narrow in
         record {
           answer = ap (λ f. answered f (solved ws xs x solver)) same;
           outputs = ap (λ f. left f (solved ws xs x solver .outputs) before) same;

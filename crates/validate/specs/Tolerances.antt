@@ -33,5 +33,6 @@ faultTolerance ts =
 unfoldable pub faultAbove : (ℕ → Float) → List Float → Fault
 faultAbove own residuals = first 8 (λ i. unless (not (lt (own i) (getD residuals i nan))) (fault RESIDUAL (i + 1)))
 
+-- by the list lent
 abbrev pub faultResidual : List Float → List Float → Fault
 faultResidual ts residuals = faultAbove (λ i. getD ts i nan) residuals
