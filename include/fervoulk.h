@@ -153,7 +153,7 @@ enum fervoulk_residual_of {
     FERVOULK_THERMAL_LIMITS = 5,
     FERVOULK_EPIGRAPH = 6,
     FERVOULK_OBJECTIVE_DIFFERENCE = 7, /* over max(1, absolute objective) */
-    FERVOULK_RESIDUALS = 8             /* how many there are */
+    FERVOULK_RESIDUAL_COUNT = 8        /* how many there are */
 };
 
 /*
@@ -204,11 +204,10 @@ double fervoulk_residual(
     size_t i);
 
 /*
- * All eight residuals, in that order, and then the objective, by one run: in front of `report`, a list of nine or more, whatever the
- * tolerances, so that none is lent. Answers number and place as fervoulk_check does for 1 to 15, but 12, place 1, is for `report`; never 16
- * or 20.
- * Where the number is 0, the list holds the nine numbers in front and the rest is as it was; where it is not 0, all of it is as it was.
- * The point is accepted only where fervoulk_check answers 0.
+ * All eight residuals, in that order, and then the objective, by one run: in front of `report`, a list of nine or more. They do not depend
+ * on tolerances, and none are lent. Answers number and place as fervoulk_check does for 1 to 15, but 12, place 1, is for `report`; never 16
+ * nor 20. Where the number is 0, the list holds the nine numbers in front and the rest is as it was; where it is not 0, all of it is as it
+ * was. The point is accepted only where fervoulk_check answers 0.
  */
 uint64_t fervoulk_residuals(
     const uint32_t *words, size_t words_length,

@@ -1,8 +1,8 @@
 /*
  * solve [OPTION=VALUE ..] < NETWORK: a small host. It compiles a packed network file (examples/pack), solves the model file with Ipopt and
  * hands the point to the check; an accepted point is printed, a column a line. docs/SOLVER.md says why the options are as they are; further
- * ones, or others for these, are arguments. An option tolerance.RESIDUAL is the check's tolerance of that residual and not Ipopt's, 1e-6 where
- * none is given. Ends with 0 exactly where the point is accepted, optimal or not.
+ * ones, or others for these, are arguments. An option tolerance.RESIDUAL is not Ipopt's: it is the check's tolerance of that residual, 1e-6
+ * where none is given. Ends with 0 exactly where the point is accepted, optimal or not.
  *
  * The values of rows and objective are the port's (fervoulk_row_values). First derivatives are taken from the model file's words, second
  * ones are left to Ipopt's quasi-Newton updates.
@@ -237,12 +237,12 @@ static int wrong(const char *what, const char *why) {
 
 /* tolerance.RESIDUAL=VALUE: the check's. Answers whether it is one; what the value is, the check looks at. */
 static int set_tolerance(double *tolerances, const char *option) {
-    static const char *const names[FERVOULK_RESIDUALS] = {
+    static const char *const names[FERVOULK_RESIDUAL_COUNT] = {
         "active_balance", "reactive_balance", "variable_bounds", "reference_angles",
         "angle_limits", "thermal_limits", "epigraph", "objective"};
     const char prefix[] = "tolerance.";
     if (strncmp(option, prefix, strlen(prefix)) != 0) return 0;
-    for (size_t i = 0; i < FERVOULK_RESIDUALS; i++) {
+    for (size_t i = 0; i < FERVOULK_RESIDUAL_COUNT; i++) {
         const char *name = option + strlen(prefix);
         size_t length = strlen(names[i]);
         if (strncmp(name, names[i], length) == 0 && name[length] == '=') {
@@ -313,8 +313,8 @@ int main(int count, char **arguments) {
     set_option(problem, "dependency_detector=mumps");
     set_option(problem, "dependency_detection_with_rhs=yes");
     set_option(problem, "sb=yes"); /* no banner */
-    double tolerances[FERVOULK_RESIDUALS];
-    for (size_t i = 0; i < FERVOULK_RESIDUALS; i++) tolerances[i] = 1e-6;
+    double tolerances[FERVOULK_RESIDUAL_COUNT];
+    for (size_t i = 0; i < FERVOULK_RESIDUAL_COUNT; i++) tolerances[i] = 1e-6;
     for (int i = 1; i < count; i++)
         if (!set_tolerance(tolerances, arguments[i])) set_option(problem, arguments[i]);
     double solver = 0;
@@ -324,7 +324,7 @@ int main(int count, char **arguments) {
 
     size_t outputs_length = fervoulk_outputs(words, nw, numbers, nx);
     double *outputs = list(outputs_length, sizeof *outputs);
-    answer = fervoulk_check(words, nw, numbers, nx, x, m.columns, solver, tolerances, FERVOULK_RESIDUALS, outputs, outputs_length);
+    answer = fervoulk_check(words, nw, numbers, nx, x, m.columns, solver, tolerances, FERVOULK_RESIDUAL_COUNT, outputs, outputs_length);
     double report[9];
     if (fervoulk_residuals(words, nw, numbers, nx, x, m.columns, solver, report, 9) == 0) {
         printf("residuals:");

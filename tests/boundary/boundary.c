@@ -68,7 +68,7 @@ static const double model_constants[] = {-1, -0.0, -0.25, 0, 1, 3};
 static const double point[] = {0, 1, 1, 0.25};
 
 /* eight tolerances as in the Rust */
-static const double primal[FERVOULK_RESIDUALS] = {1e-6, 1e-6, 1e-6, 1e-6, 1e-6, 1e-6, 1e-6, 1e-6};
+static const double primal[FERVOULK_RESIDUAL_COUNT] = {1e-6, 1e-6, 1e-6, 1e-6, 1e-6, 1e-6, 1e-6, 1e-6};
 
 /* ---- the helpers of the header */
 
@@ -278,9 +278,9 @@ static void test_tolerances(void) {
     const double strong[] = {0, 1, 1.5, 0.25};
     /* half a unit too much is generated, and the reference is off by as much */
     const double turned[] = {0.5, 1, 1.5, 0.25};
-    double own[FERVOULK_RESIDUALS + 1];
+    double own[FERVOULK_RESIDUAL_COUNT + 1];
     memcpy(own, primal, sizeof primal);
-    own[FERVOULK_RESIDUALS] = NAN;
+    own[FERVOULK_RESIDUAL_COUNT] = NAN;
     /* equal passes, one double less refuses */
     own[FERVOULK_ACTIVE_BALANCE] = 0.5;
     expect_check_within(own, 8, words, numbers, strong, 4, 10.75, 0, 0, 10.75, 0, 0.5, __LINE__);
@@ -291,14 +291,14 @@ static void test_tolerances(void) {
     double outputs[2];
     EXPECT(refused(fervoulk_check(NETWORK, LIST(turned), 10.75, own, 8, LIST(outputs)), FERVOULK_RESIDUAL, 4));
     /* zeros of either sign are tolerances, and the start is exact */
-    const double zeros[FERVOULK_RESIDUALS] = {0, -0.0, 0, -0.0, 0, -0.0, 0, -0.0};
+    const double zeros[FERVOULK_RESIDUAL_COUNT] = {0, -0.0, 0, -0.0, 0, -0.0, 0, -0.0};
     expect_check_within(zeros, 8, words, numbers, point, 4, 8, 0, 0, 8, 0, 0, __LINE__);
     /* a length other than eight, before any number is looked at; then the first that is not finite or below 0; 20 before 13 and 15 */
     expect_check_within(own, 9, words, numbers, point, 4, 8, FERVOULK_TOLERANCE, 0, 0, 0, 0, __LINE__);
     expect_check_within(own, 7, words, numbers, point, 4, 8, FERVOULK_TOLERANCE, 0, 0, 0, 0, __LINE__);
     expect_check_within(NULL, 0, words, numbers, point, 3, INFINITY, FERVOULK_TOLERANCE, 0, 0, 0, 0, __LINE__);
     static const double wrongs[] = {NAN, INFINITY, -INFINITY, -1, -0x1p-1074};
-    for (size_t i = 0; i < FERVOULK_RESIDUALS; i++) {
+    for (size_t i = 0; i < FERVOULK_RESIDUAL_COUNT; i++) {
         for (size_t j = 0; j < LENGTH(wrongs); j++) {
             memcpy(own, primal, sizeof primal);
             own[i] = wrongs[j];
