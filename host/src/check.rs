@@ -31,7 +31,8 @@ pub struct Outputs {
 /// # use fervoulk::{check, Tolerances};
 /// # let words = [0x10000001, 0x20000001, 0x30001000, 0x50000000];
 /// # let numbers = [1.0, 0.25, 0.0, 0.0, 0.9, 1.1, 0.0, 1.0, 0.0, 2.0, -1.0, 1.0, 2.0, 3.0, 4.0, 1.0, 0.25];
-/// let refused = check(&words, &numbers, &[0.0, 1.0, 1.5, 0.25], 10.75, &Tolerances::default()).expect_err("half a unit too much is generated");
+/// // half a unit too much is generated
+/// let refused = check(&words, &numbers, &[0.0, 1.0, 1.5, 0.25], 10.75, &Tolerances::default()).expect_err("the balance is off");
 /// assert_eq!(refused.residuals.expect("refusal 16").active_balance, 0.5);
 /// ```
 #[derive(Clone, Copy, Debug, PartialEq)]
@@ -47,8 +48,8 @@ pub struct Residuals {
     pub objective: f64,
 }
 
-/// How far each residual may be off; one equal to its tolerance passes. A tolerance that is not finite or below 0 is refusal 20, whose place
-/// counts them from 1 in this order. By default all eight are 1e-6, as in the Rust.
+/// How far each residual may be off; one equal to its tolerance passes. A tolerance that is not finite or below 0 is refusal 20, whose
+/// place counts them from 1 in this order. By default all eight are 1e-6, as in the Rust.
 ///
 /// ```
 /// use fervoulk::{check, Tolerances};
@@ -153,8 +154,8 @@ impl fmt::Display for Refused {
 
 impl std::error::Error for Refused {}
 
-/// Checks a point, a value for each column, and the solver's objective for it, each residual against its own tolerance. Only `Ok` means that
-/// the point may be used.
+/// Checks a point, a value for each column, and the solver's objective for it, each residual against its own tolerance. Only `Ok` means
+/// that the point may be used.
 ///
 /// The check runs twice: once for the verdict and the outputs, once for the residuals and the objective.
 ///

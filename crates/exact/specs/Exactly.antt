@@ -73,8 +73,8 @@ pub record KeptExactly (ws : List ℕ) (xs x : List Float) (solver : Float) (ts 
       * size (maximum (absolute (ownObjective ws xs x)) one64))
 
 -- The ratings alone, with u(x) = x * 2^1074 and t the tolerance of the thermal limits:
--- 2^106 * (u(p)^2 + u(q)^2) <= ((2^53 + 5) * (u(s_max) + u(t)))^2, at both ends of every branch with an active s_max above 0, where s_max and
--- t together are above 2^-1022, as they are where one of them is.
+-- 2^106 * (u(p)^2 + u(q)^2) <= ((2^53 + 5) * (u(s_max) + u(t)))^2, at both ends of every branch with an active s_max above 0, where s_max
+-- and t together are above 2^-1022, as they are where one of them is.
 abbrev pub RatingsExact : List ℕ → List Float → List Float → Float → Type 0
 RatingsExact ws xs x t =
     (b : ℕ) → b < branches ws → rated ws xs b ≡ true → 2 ^ 52 < size (sMax ws xs b) + size t

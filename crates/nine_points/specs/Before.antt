@@ -65,7 +65,8 @@ module _ (ws : List ℕ) (xs : List Float) where
           → left (checkBefore ts (length before)) (solved ws xs x solver .outputs) before ≡ outputsAfter ws xs x solver ts before
       pub residuals : (lent : ℕ) → residualsBefore lent ≡ residualsFault ws xs x solver lent
       pub report : (before : List Float)
-          → left (residualsBefore (length before)) (reported ws xs x solver (solved ws xs x solver)) before ≡ reportAfter ws xs x solver before
+          → left (residualsBefore (length before)) (reported ws xs x solver (solved ws xs x solver)) before
+          ≡ reportAfter ws xs x solver before
       pub needed :
           cond (eqb (firstBefore ws (networkSections ws xs) .number) 0) (2 * buses ws + 4 * branches ws) 0 ≡ outputsNeeded ws xs
 

@@ -1,5 +1,5 @@
--- Document 02 (c): "A point check still agrees with the Rust whenever all eight are 1e-6". What the check answered with no list lent: 20 is not
--- among its refusals, and 16 goes by 1e-6 for every residual; all else is as it is now.
+-- Document 02 (c): "A point check still agrees with the Rust whenever all eight are 1e-6". What the check answered with no list lent: 20 is
+-- not among its refusals, and 16 goes by 1e-6 for every residual; all else is as it is now.
 use Prim.Native.Nat.{ℕ, _<_}
 use mathlib.Core.Path.{_≡_}
 use mathlib.Core.List.{List, [], _∷_, _++_}

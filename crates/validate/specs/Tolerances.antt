@@ -28,8 +28,8 @@ faultTolerance ts =
     orElse (unless (eqb (length ts) 8) (fault TOLERANCE 0))
     (first 8 (λ i. unless (toleranceRight (getD ts i nan)) (fault TOLERANCE (i + 1))))
 
--- 16 residual: "The first residual above its own tolerance decides 16, and a residual equal to it passes"; the place is 1 to 8, and `own i` is
--- the tolerance at place i + 1
+-- 16 residual: "The first residual above its own tolerance decides 16, and a residual equal to it passes"; the place is 1 to 8, and `own i`
+-- is the tolerance at place i + 1
 unfoldable pub faultAbove : (ℕ → Float) → List Float → Fault
 faultAbove own residuals = first 8 (λ i. unless (not (lt (own i) (getD residuals i nan))) (fault RESIDUAL (i + 1)))
 

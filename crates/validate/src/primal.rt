@@ -144,8 +144,8 @@ fn check_point(
     settled(words, numbers, point, layout, solver, tolerances, outputs)
 }
 
-// Whether the point is accepted, with a tolerance for each of the eight residuals. The outputs are written only then: the list's front is all
-// p injections, all q injections, then all p_from, q_from, p_to and q_to. After a refusal the list is as it was.
+// Whether the point is accepted, with a tolerance for each of the eight residuals. The outputs are written only then: the list's front is
+// all p injections, all q injections, then all p_from, q_from, p_to and q_to. After a refusal the list is as it was.
 pub fn check(
     words: &[u32],
     numbers: &[f64],

@@ -6,8 +6,9 @@
 //! few, as many as needed and three more, with guard numbers around it, with the text's tolerance for every residual and with lists of
 //! others; compile's number and place, its seven lists by bits, its
 //! counts and objective constant, each list lent short, long enough and longer, with guards. Lent lists are full of NaNs of many payloads
-//! and compared by bits. 1 to 6, 12 and 20 are held to documents 01 and 02 (rules.rs), 16 with other tolerances to the text's residuals, the
-//! rest to the text (tests/oracle/src/lib.rs). A NaN in an answer is one NaN, and the zeros that `f64::max` leaves open are counted apart.
+//! and compared by bits. 1 to 6, 12 and 20 are held to documents 01 and 02 (rules.rs), 16 with other tolerances to the text's residuals,
+//! the rest to the text (tests/oracle/src/lib.rs). A NaN in an answer is one NaN, and the zeros that `f64::max` leaves open are counted
+//! apart.
 
 use differential::cases::{self, Case};
 use differential::compare::{self, Tally};

@@ -14,8 +14,8 @@ pub struct List {
     pub what: String,
 }
 
-/// The answer with these tolerances, from the text's, which has 1e-6 for all: the network's refusals and 12 come before 20, and where neither 20
-/// nor 13 to 15 refuse, the residuals alone decide.
+/// The answer with these tolerances, from the text's, which has 1e-6 for all: the network's refusals and 12 come before 20, and where
+/// neither 20 nor 13 to 15 refuse, the residuals alone decide.
 pub fn refusal(primal: Refusal, residuals: Option<&[f64; 8]>, tolerances: &[f64]) -> Refusal {
     if (1..=12).contains(&primal.0) {
         return primal;
@@ -30,8 +30,8 @@ pub fn refusal(primal: Refusal, residuals: Option<&[f64; 8]>, tolerances: &[f64]
     }
 }
 
-/// One list of any right tolerances; where there are residuals, three that hold one of them alone to itself and to its neighbours; in one of
-/// four cases a wrong list.
+/// One list of any right tolerances; where there are residuals, three that hold one of them alone to itself and to its neighbours; in one
+/// of four cases a wrong list.
 pub fn lists(random: &mut Random, residuals: Option<&[f64; 8]>) -> Vec<List> {
     let mut all = vec![List { tolerances: any(random, residuals), what: "any".to_owned() }];
     if let Some(residuals) = residuals {

@@ -9,7 +9,8 @@
 //! A record, in 64-bit little-endian cells, floats by their bits: 0 its length in cells, 1 kind.
 //! Kind 0, the check: 2 words, 3 numbers, 4 columns of the point, 5 length of the output list lent, 6 number, 7 place, 8 solver's
 //! objective, 9 objective, 10 to 17 residuals, 18 tolerances, then the words, one a cell, the numbers, the point, the tolerances, and the
-//! output list after the call. A third of the candidates has the text's tolerances; with others 16 is by the text's residuals, and 20 by the paper.
+//! output list after the call. A third of the candidates has the text's tolerances; with others 16 is by the text's residuals, and 20 by
+//! the paper.
 //! Kind 1, compile: 2 words, 3 numbers, 4 number, 5 place, 6 to 10 the counts of words, constants, columns, rows and shared parts, 11
 //! objective constant, then the words, one a cell, the numbers, and the fronts of the seven lists, of which the model words stand two
 //! a cell.
@@ -31,7 +32,8 @@ const TIMES: u8 = 2;
 const PRIMAL_LIST: &str = "primal";
 const CHUNK: usize = 65_536 / 8;
 const LENT: f64 = 5.0;
-/// The room that the program has for words, numbers, a point and outputs (as much for tolerances); and for model words, constants, columns and rows.
+/// The room that the program has for words, numbers, a point and outputs, as much for tolerances; and for model words, constants, columns
+/// and rows.
 const ROOM: [usize; 4] = [32, 256, 256, 256];
 const MODEL_ROOM: [usize; 4] = [1024, 256, 64, 128];
 

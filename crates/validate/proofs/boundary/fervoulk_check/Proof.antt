@@ -17,7 +17,10 @@ returns : tie.Need-returns
 returns c =
     let is = c .before .before .before .check .ensures in
     let finite = subst T (sym (c .before .before .before .before .before .before .before .before .before .before .good .1 .1 .1 .0 .1)) tt in
-    (rw (c .packed .ensures, is .0), is .1, c .before .before .before .before .before .before .before .before .shared-slice-known2 .given, c .before .before .before .before .before .before .before .shared-slice-known3 .given, finite, c .before .before .before .before .before .before .shared-slice-known4 .given)
+    let numbers = c .before .before .before .before .before .before .before .before .shared-slice-known2 .given in
+    let point = c .before .before .before .before .before .before .before .shared-slice-known3 .given in
+    let tolerances = c .before .before .before .before .before .before .shared-slice-known4 .given in
+    (rw (c .packed .ensures, is .0), is .1, numbers, point, finite, tolerances)
 
 pub fervoulk-check-spec : {M : Type 1} → statement M
 fervoulk-check-spec = tie.close (tie.spec check-requires packed-requires same-length returns)
