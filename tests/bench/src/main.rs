@@ -225,7 +225,7 @@ fn parts(net: &Net, x: &[f64], own: f64) {
     let part = |name: &str, time: f64| println!("    {name:<42} {time:>9.2} {:>4.0} %", 100.0 * time / at(5));
     part("network: refusals 1 to 10", at(0));
     part("constants: refusal 11", at(1) - at(0));
-    part("point: refusals 12 to 14", at(2) - at(1));
+    part("point: refusals 12 to 14, and 20", at(2) - at(1));
     part("flows, injections, objective: 15", at(3) - at(2));
     part("residuals without hypotenuses, outputs", at(4) - at(3));
     part("hypotenuses", at(5) - at(4));
