@@ -111,7 +111,7 @@ fn compile(case: &Case) {
     }
 }
 
-/// The fields that the case names, by bits; nothing is written exactly where it expects no outputs.
+/// The fields that the case names, by bits; after a refusal the whole list is as it was, else what is behind the outputs.
 fn check(case: &Case) {
     const HELD: f64 = -7.5;
     let (words, numbers) = case.tables();
