@@ -68,7 +68,7 @@ module _ (ws : List ℕ) (xs x : List Float) (solver : Float) where
   balance-never-15 h p q = first-proper _ _ (λ i. unless-proper _ 15 i (omega arith)) (derived-exactly .1 (h, p, q))
 
   module _ (ts : List Float) where
-    within-residual : Every (λ i v. lt (getD ts i nan) v ≡ false) 0 (S .residuals) → Clear (faultResidual ts (S .residuals))
+    pub within-residual : Every (λ i v. lt (getD ts i nan) v ≡ false) 0 (S .residuals) → Clear (faultResidual ts (S .residuals))
     unfolding solved residuals
     within-residual h =
         above-none _ _ (λ i l. rw zero-add at (all-at (λ i v. lt (getD ts i nan) v ≡ false) 0 (S .residuals) (h .all) i nan l))

@@ -5,18 +5,18 @@ use mathlib.Core.Logic.{_↔_}
 use mathlib.Core.Bool.{false}
 use Prim.Native.Nat.{ℕ, _<_}
 use native.Mathlib.Omega.{arith}
-use native.Mathlib.Nat.{zero-add}
 use lib.ListN.{getD}
 use lib.Ieee.{Float, nan, lt}
 use Rattle.base.proofs.Firsts.{Clear}
-use Rattle.base.proofs.Loops.{Every, every-nil, every-cons, all-at}
+use Rattle.base.proofs.Loops.{Every, every-nil, every-cons}
 use Rattle.float.proofs.Above.{maximum-law}
 use Rattle.float.specs.Number.{maximum}
 use Rattle.derived.specs.Outputs.{flows}
 use Rattle.residuals.specs.Residuals.{residuals}
 use Rattle.validate.specs.Tolerances.{tiny64, primalTolerances, faultResidual}
 use Rattle.validate.specs.Check.{solved}
-use Rattle.validate.proofs.Tolerances.{none-above, above-none}
+use Rattle.validate.proofs.Tolerances.{none-above}
+use Rattle.accepted.proofs.Accepts.{within-residual}
 
 -- max_violation
 abbrev pub maxViolation : List Float → Float
@@ -52,5 +52,4 @@ module _ (ws : List ℕ) (xs x : List Float) (solver : Float) where
           let h0 = law _ _ .0 (h1 .0) in
           let e : Every (λ i v. lt (getD primalTolerances i nan) v ≡ false) 0 (residuals ws xs x (flows ws xs x) solver) =
           every-cons (h0 .0) (every-cons (h0 .1) (every-cons (h1 .1) (every-cons (h2 .1) (every-cons (h3 .1) (every-cons (h4 .1) (every-cons (h5 .1) (every-cons (h6 .1) every-nil))))))) in
-          above-none _ _ (λ i l.
-          rw zero-add at (all-at (λ i v. lt (getD primalTolerances i nan) v ≡ false) 0 (residuals ws xs x (flows ws xs x) solver) (e .all) i nan l))
+          within-residual ws xs x solver primalTolerances e

@@ -33,7 +33,7 @@ use Rattle.acopf.specs.Factor.{constants64, faultFactor, networkFault}
 use Rattle.compile.specs.Compile.{lengths, faultShort, compileFault, refused, accepted, compiled}
 use Rattle.derived.specs.Outputs.{injected, withdrawn, pInjection, qInjection, cost, ownObjective, flows, outputs}
 use Rattle.residuals.specs.Residuals.{largest, largestWhere, pBalance, qBalance, activeBalance, reactiveBalance, thermalLimits, variableBounds, referenceAngles, angleLimits, epigraphs, objectiveDifference, residuals}
-use Rattle.validate.specs.Tolerances.{tiny64, primalTolerances, toleranceRight, faultTolerance, faultAbove}
+use Rattle.validate.specs.Tolerances.{tiny64, primalTolerances, faultTolerance, faultAbove}
 use Rattle.validate.specs.Check.{solved, faultOutput, faultPoint, faultSwing, faultDerived, faultOf, checkFault, checked}
 use Rattle.depot_text.specs.Input.{formed, inputWords, inputNumbers}
 use Rattle.little_endian.specs.Bytes.{wordAt, bitsAt}
@@ -203,7 +203,7 @@ cases =
     ∷ []
 
 all-right : T (all cases)
-unfolding loop table each tally unless orElse first isFinite absolute maximum kernelSin kernelCos remPio2 nearPositive nearNegative signed firstIteration secondIteration noCancellation cosine sine sinReduced cosReduced bitByBit normalized squareRoot scaled middle small endless ordered hypotenuse loadFor words wordsOf constants constantsOf partWords modelWords modelConstants wordOk arity uses readHead readExpr isMark readParts readLast readEnd findAfter find rowWords loadRight kindBefore buses generators branches references generatorAt branchAt needed epigraphsBefore columns finiteOr clampStart boundsRight angleRight positiveViolation wordRight faultWords faultSize blanks faultCount faultBlank faultCurve faultShift faultBounds faultSpread faultRating faultSquare branchFault faultBranches faultTables slope intercept evaluate coefficientsOf flowAt flowOf flow vmLower vmUpper pgLower pgUpper qgLower qgUpper vaStart vmStart pgStart qgStart epigraphStart columnLower columnUpper columnStart branchParts sharedParts balanceRow pBalanceRow qBalanceRow thermalRows segmentRow segmentRows rows rowLower rowUpper costTerm objective objectiveConstant model fileWords firstNonFinite constants64 faultFactor networkFault lengths faultShort compileFault refused accepted compiled injected withdrawn pInjection qInjection cost ownObjective flows outputs largest largestWhere pBalance qBalance activeBalance reactiveBalance thermalLimits variableBounds referenceAngles angleLimits epigraphs objectiveDifference residuals primalTolerances toleranceRight solved faultOutput faultTolerance faultPoint pointFault faultSwing faultDerived faultAbove faultOf checkFault checked add sub mul div neg ofBits toBits toUnsigned ofInt round lt le eq ne d all sameList compiles prints starts compileRefuses answers finds cases wordAt bitsAt formed inputWords inputNumbers hexLine hexLines decimalWithin refusedLine networkText output
+unfolding loop table each tally unless orElse first isFinite absolute maximum kernelSin kernelCos remPio2 nearPositive nearNegative signed firstIteration secondIteration noCancellation cosine sine sinReduced cosReduced bitByBit normalized squareRoot scaled middle small endless ordered hypotenuse loadFor words wordsOf constants constantsOf partWords modelWords modelConstants wordOk arity uses readHead readExpr isMark readParts readLast readEnd findAfter find rowWords loadRight kindBefore buses generators branches references generatorAt branchAt needed epigraphsBefore columns finiteOr clampStart boundsRight angleRight positiveViolation wordRight faultWords faultSize blanks faultCount faultBlank faultCurve faultShift faultBounds faultSpread faultRating faultSquare branchFault faultBranches faultTables slope intercept evaluate coefficientsOf flowAt flowOf flow vmLower vmUpper pgLower pgUpper qgLower qgUpper vaStart vmStart pgStart qgStart epigraphStart columnLower columnUpper columnStart branchParts sharedParts balanceRow pBalanceRow qBalanceRow thermalRows segmentRow segmentRows rows rowLower rowUpper costTerm objective objectiveConstant model fileWords firstNonFinite constants64 faultFactor networkFault lengths faultShort compileFault refused accepted compiled injected withdrawn pInjection qInjection cost ownObjective flows outputs largest largestWhere pBalance qBalance activeBalance reactiveBalance thermalLimits variableBounds referenceAngles angleLimits epigraphs objectiveDifference residuals primalTolerances solved faultOutput faultTolerance faultPoint pointFault faultSwing faultDerived faultAbove faultOf checkFault checked add sub mul div neg ofBits toBits toUnsigned ofInt round lt le eq ne d all sameList compiles prints starts compileRefuses answers finds cases wordAt bitsAt formed inputWords inputNumbers hexLine hexLines decimalWithin refusedLine networkText output
 all-right = tt
 
 -- the constants that the definitions name by their bits are 0, 0.5, 1, 1024, 1e19 and 1e-6

@@ -11,13 +11,14 @@ use Rattle.base.specs.Refusal.{RESIDUAL}
 use Rattle.base.proofs.Firsts.{Clear, or-go}
 use Rattle.base.proofs.Scans.{first-same}
 use Rattle.float.specs.Number.{isFinite}
+use Rattle.bounds.specs.Bounds.{boundsRight}
 use Rattle.validate.specs.Tolerances.{tiny64, toleranceRight, faultTolerance, faultAbove, faultResidual, primalTolerances}
 use Rattle.validate.specs.Check.{solved, faultOf, checkFault, checked, answered}
 use Rattle.validate.proofs.Tolerances.{right-clear}
 use Rattle.own_tolerances.specs.Before.{AllPrimal, checkBefore, AsBefore}
 
 primal-right : toleranceRight tiny64 ≡ true
-unfolding toleranceRight isFinite lt ofBits
+unfolding boundsRight isFinite lt ofBits
 primal-right = refl
 
 module _ (ts : List Float) (P : AllPrimal ts) where

@@ -1,6 +1,6 @@
 -- Refusals 20 and 16: their numbers and places, and what a list is that 20 passes.
-use mathlib.Core.Path.{_≡_, refl, ap}
-use mathlib.Core.Bool.{Bool, true, false, not, _&&_, false≢true}
+use mathlib.Core.Path.{_≡_, ap}
+use mathlib.Core.Bool.{true, false, not, _&&_}
 use mathlib.Core.List.{List}
 use Prim.Native.Nat.{ℕ, _+_, _<_}
 use native.Mathlib.Omega.{arith}
@@ -13,6 +13,9 @@ use Rattle.base.specs.Refusal.{RESIDUAL, TOLERANCE}
 use Rattle.base.proofs.Firsts.{Clear, Proper, Spans, spans-unless, spans-or, spans-first, or-go, or-left, or-right, or-clear}
 use Rattle.base.proofs.Firsts.{unless-true, unless-clear, unless-proper, first-clear, all-clear, first-proper, FirstFail, first-fails}
 use Rattle.float.specs.Number.{zero64, isFinite}
+use Rattle.bounds.specs.Bounds.{boundsRight}
+use Rattle.network.proofs.Places.{and-right}
+use Rattle.tables.proofs.Right.{upper-right}
 use Rattle.validate.specs.Tolerances.{toleranceRight, faultTolerance, faultAbove}
 
 -- ---- 16
@@ -43,22 +46,14 @@ module _ (own : ℕ → Float) (residuals : List Float) where
 
 -- ---- 20
 
-both : (a b : Bool) → a && not b ≡ true → (a ≡ true) × (b ≡ false)
-both true true h = absurd (false≢true h)
-both true false h = (refl, refl)
-both false b h = absurd (false≢true h)
-
 -- a tolerance that 20 passes is finite and not below 0
-right-tolerance : (t : Float) → toleranceRight t ≡ true → (isFinite t ≡ true) × (lt t zero64 ≡ false)
-unfolding toleranceRight
-right-tolerance t h = both (isFinite t) (lt t zero64) h
-
 module _ (ts : List Float) (right : (i : ℕ) → i < 8 → toleranceRight (getD ts i nan) ≡ true) where
   pub tolerances-finite : (i : ℕ) → i < 8 → isFinite (getD ts i nan) ≡ true
-  tolerances-finite i l = right-tolerance _ (right i l) .0
+  tolerances-finite i l = upper-right zero64 (getD ts i nan) (right i l)
 
   pub tolerances-not-below : (i : ℕ) → i < 8 → lt (getD ts i nan) zero64 ≡ false
-  tolerances-not-below i l = right-tolerance _ (right i l) .1
+  unfolding boundsRight
+  tolerances-not-below i l = not-true _ (and-right (isFinite zero64 && isFinite (getD ts i nan)) _ (right i l))
 
 module _ (ts : List Float) where
   pub tolerance-spans : Spans TOLERANCE TOLERANCE (faultTolerance ts)

@@ -1,6 +1,6 @@
 -- Document 02 (c): the tolerances of the eight residuals, lent with the point, and the two refusals that go by them, 20 and 16.
 use Prim.Native.Nat.{ℕ, _+_}
-use mathlib.Core.Bool.{Bool, not, _&&_}
+use mathlib.Core.Bool.{Bool, not}
 use mathlib.Core.List.{List}
 use lib.ListN.{length, getD, replicate}
 use lib.Dec.{eqb}
@@ -8,7 +8,8 @@ use lib.Ieee.{Float, nan, binary64, ofBits, lt}
 use Rattle.base.specs.declared.Fault.{Fault}
 use Rattle.base.specs.Fault.{fault, unless, orElse, first}
 use Rattle.base.specs.Refusal.{RESIDUAL, TOLERANCE}
-use Rattle.float.specs.Number.{zero64, isFinite}
+use Rattle.float.specs.Number.{zero64}
+use Rattle.bounds.specs.Bounds.{boundsRight}
 
 -- 1e-6, the Rust's PRIMAL_TOLERANCE
 abbrev pub tiny64 : Float
@@ -18,9 +19,9 @@ tiny64 = ofBits binary64 0x3EB0_C6F7_A0B5_ED8D
 unfoldable pub primalTolerances : List Float
 primalTolerances = replicate 8 tiny64
 
--- not "non-finite or below 0"; -0 is not below 0
-unfoldable pub toleranceRight : Float → Bool
-toleranceRight t = isFinite t && not (lt t zero64)
+-- not "non-finite or below 0", as 9 says it of a rating; -0 is not below 0
+abbrev pub toleranceRight : Float → Bool
+toleranceRight t = boundsRight zero64 t
 
 -- 20 tolerance: "a list of other than eight (place 0) or a tolerance that is non-finite or below 0 (place 1 to 8, the first)"
 unfoldable pub faultTolerance : List Float → Fault

@@ -3,18 +3,9 @@ use base::Fault;
 use base::refusal;
 ghost use mathlib.Core.Path.{_≡_};
 ghost use lib.ListN.{length};
-ghost use Rattle.validate.specs.Tolerances.{toleranceRight, faultTolerance, faultResidual};
+ghost use Rattle.validate.specs.Tolerances.{faultTolerance, faultResidual};
 
-// Whether a tolerance is finite and not below 0; -0 is not below 0.
-fn tolerance_right(tolerance: f64) -> bool
-    ensures { λ r. ⌜ r ≡ toleranceRight tolerance ⌝ }
-{
-    let finite = float::is_finite(tolerance);
-    let below = tolerance < 0.0;
-    finite & !below
-}
-
-// 20. The length is looked at before any tolerance.
+// 20. The length is looked at before any tolerance; each is finite and not below 0, and -0 is not below 0.
 pub(crate) fn tolerance_fault(tolerances: &[f64]) -> Fault
     ensures { λ r. ⌜ r ≡ faultTolerance (now (tolerances .entry)) ⌝ }
 {
@@ -26,7 +17,7 @@ pub(crate) fn tolerance_fault(tolerances: &[f64]) -> Fault
     }
     let mut i = 0usize;
     while i < 8 {
-        if !tolerance_right(tolerances[i]) {
+        if !bounds::validate_bounds(0.0, tolerances[i]) {
             return Fault {
                 number: refusal::TOLERANCE,
                 place: i + 1,

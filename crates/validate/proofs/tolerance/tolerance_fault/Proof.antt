@@ -26,21 +26,21 @@ returns c = sym (count-place _ (λ e. omega (arith, e, c .if1 .taken)))
 loop-holds : tie.Need-loop-holds Inv-loop μ-loop
 loop-holds c = (omega arith, first-none _)
 
-mul-tolerance-right : tie.Need-mul-tolerance-right Inv-loop μ-loop
-mul-tolerance-right c = search needs
+mul-validate-bounds : tie.Need-mul-validate-bounds Inv-loop μ-loop
+mul-validate-bounds c = search needs
 
-shared-slice-read-tolerance-right : tie.Need-shared-slice-read-tolerance-right Inv-loop μ-loop
-shared-slice-read-tolerance-right c = search needs
+shared-slice-read-validate-bounds : tie.Need-shared-slice-read-validate-bounds Inv-loop μ-loop
+shared-slice-read-validate-bounds c = search needs
 
-tolerance-right-requires : tie.Need-tolerance-right-requires Inv-loop μ-loop
-tolerance-right-requires c κs = search needs
+validate-bounds-requires : tie.Need-validate-bounds-requires Inv-loop μ-loop
+validate-bounds-requires c κs = search needs
 
 add-t10 : tie.Need-add-t10 Inv-loop μ-loop
 add-t10 c = search needs
 
 returns-2 : tie.Need-returns-2 Inv-loop μ-loop
 returns-2 c =
-    test-here _ TOLERANCE _ _ _ (omega arith) (c .before .before .before .loop-test .taken) (sym (c .before .tolerance-right .ensures) ∙ not-true _ (c .if2 .taken)) (c .before .before .before .before .loop .inv .1)
+    test-here _ TOLERANCE _ _ _ (omega arith) (c .before .before .before .loop-test .taken) (sym (c .before .validate-bounds .ensures) ∙ not-true _ (c .if2 .taken)) (c .before .before .before .before .loop .inv .1)
     ∙ sym (of-eight _ (omega (arith, c .before .before .before .before .before .if1 .left)))
 
 add-i : tie.Need-add-i Inv-loop μ-loop
@@ -50,7 +50,7 @@ loop-less : tie.Need-loop-less Inv-loop μ-loop
 loop-less c = search needs
 
 loop-again : tie.Need-loop-again Inv-loop μ-loop
-loop-again c = (omega arith, test-more _ TOLERANCE _ _ (sym (c .before .tolerance-right .ensures) ∙ not-false _ (c .if2 .left)) (c .before .before .before .before .loop .inv .1))
+loop-again c = (omega arith, test-more _ TOLERANCE _ _ (sym (c .before .validate-bounds .ensures) ∙ not-false _ (c .if2 .left)) (c .before .before .before .before .loop .inv .1))
 
 returns-3 : tie.Need-returns-3 Inv-loop μ-loop
 returns-3 c = first-done _ _ _ (omega arith) (λ j. unless-proper _ TOLERANCE _ (omega arith)) (c .before .loop .inv .1) ∙ sym (of-eight _ (omega (arith, c .before .before .if1 .left)))
@@ -63,9 +63,9 @@ tolerance-fault-spec =
     μ-loop
     returns
     loop-holds
-    mul-tolerance-right
-    shared-slice-read-tolerance-right
-    tolerance-right-requires
+    mul-validate-bounds
+    shared-slice-read-validate-bounds
+    validate-bounds-requires
     add-t10
     returns-2
     add-i
