@@ -1,4 +1,6 @@
 // What the network file, the model file and the refusals share: a word's two parts, and the answer type of every refusal.
+#![tactic(auto)]
+
 pub mod refusal;
 mod section;
 

@@ -1,4 +1,5 @@
 // Compile's three column lists: lower, upper, start. Each is written section by section: va, vm, pg, qg, epigraphs.
+#![tactic(auto)]
 mod lists;
 mod sections;
 mod values;

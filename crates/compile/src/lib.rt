@@ -1,4 +1,5 @@
 // compile_ac_opf_model: from the network file to the model file.
+#![tactic(auto)]
 mod boundary;
 mod decide;
 mod model;

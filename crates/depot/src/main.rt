@@ -1,5 +1,6 @@
 // Document 01's program: reads a network file in binary from standard input and prints its model words, its refusal, or "input".
 // The exit status is always 0: the text says which of the three it is.
+#![tactic(auto)]
 use libc::{STDIN_FILENO, STDOUT_FILENO};
 
 fn main() {

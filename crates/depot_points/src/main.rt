@@ -2,6 +2,7 @@
 // number and place, the bits of the objective and of residual 1, and the bits of an output list of three numbers, of which an accepted
 // point has two. Networks through compile: number and place, the five counts, the objective constant's bits, and the bits of the constants
 // and starts. The file written, through the finder: number and place, and where the row's part starts and how long it is.
+#![tactic(auto)]
 use libc::STDOUT_FILENO;
 
 const WORDS: [u32; 4] = [0x10000001, 0x20000001, 0x30001000, 0x50000000];

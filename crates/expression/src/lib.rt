@@ -3,6 +3,7 @@
 // A slice of shared values is as long as the number of shared parts that may be named, and the point as long as the number of columns, so
 // that one comparison is both the reading rule and the bound of the read. Most operands are a constant, a column, a shared part or the
 // product of two such: these are tried first, without a call of their own.
+#![tactic(auto)]
 ghost use Rattle.std.specs.Prelude.{◌≡◌, true, cond, ◌&&◌, ℕ, suc, ◌<◌, eqb, length, get_or};
 ghost use Rattle.std.specs.Float.{binary64, nan};
 ghost use Rattle.std.specs.Float.Ieee.{of_bits};

@@ -1,5 +1,6 @@
 // Calls sine, cosine, square root and hypotenuse on the vectors of data/vectors.bin (tests/fdlibm/README.md says how they were made)
 // and prints how many there were of each, and how many answers were not the stored one to the bit.
+#![tactic(auto)]
 ghost use Rattle.std.specs.Prelude.{◌+◌, ◌≤◌, length};
 
 use libc::STDOUT_FILENO;

@@ -1,4 +1,5 @@
 // Total functions on f64 that everything above is built of. Each answers at every float, NaN too.
+#![tactic(auto)]
 ghost use Rattle.std.specs.Prelude.{◌≡◌, pos, from_bits, to_bits};
 ghost use Rattle.std.specs.Float.{binary64};
 ghost use Rattle.std.specs.Float.Ieee.{to_unsigned, of_int};

@@ -1,4 +1,5 @@
 // The network file: its words and numbers, where they stand, and refusals 1 to 3.
+#![tactic(auto)]
 mod formed;
 mod layout;
 mod limits;

@@ -1,5 +1,6 @@
 // Replays the model files of data/files, each with the answer that document 01 gives of it (tests/nl/files.py, which says how a
 // record is laid out), and prints how many there are and for how many an answer is another.
+#![tactic(auto)]
 ghost use Rattle.std.specs.Prelude.{◌≡◌, ◌≤◌, ◌<◌, length};
 
 use libc::STDOUT_FILENO;

@@ -1,5 +1,6 @@
 // Replays the original Rust's answers of data/answers (tests/differential/src/bin/store.rs says how a record is laid out and how they were
 // chosen) through compile and the check, and prints how many there are and for how many the answer or a list is another.
+#![tactic(auto)]
 ghost use Rattle.std.specs.Prelude.{◌≡◌, ◌+◌, ◌≤◌, ◌<◌, length};
 
 use base::Fault;

@@ -1,4 +1,5 @@
 // The eight residuals of a point, and its own objective.
+#![tactic(auto)]
 mod cost;
 mod eight;
 mod single;

@@ -5,6 +5,7 @@
 // file with too many shared parts are refused by reading alone (crate model_reading). Both lent lists are written once nothing can be
 // refused any more: the rows from an array of as many as compile ever writes, or, where a foreign file has more, by going through its
 // rows again. The time is in proportion to the words.
+#![tactic(auto)]
 mod boundary;
 mod scan;
 

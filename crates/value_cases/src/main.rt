@@ -1,5 +1,6 @@
 // Replays the cases of row values of data/cases (tests/row_values/cases.py says where they come from and how a record is laid out), and
 // prints how many there are and for how many an answer or a list is another.
+#![tactic(auto)]
 ghost use Rattle.std.specs.Prelude.{◌≡◌, ◌≤◌, ◌<◌, length};
 
 use base::Fault;
