@@ -1,5 +1,5 @@
 -- A refusal is the first of several sections: sections stand in any order of numbers, and no two give the same number.
-use mathlib.Core.Path.{◌≡◌, refl, sym, ap, ◌∙◌}
+use mathlib.Core.Path.{◌≡◌, refl, sym, ap, subst, ◌∙◌}
 use mathlib.Core.List.{List, [], ◌∷◌, ◌++◌}
 use mathlib.Core.Bool.{Bool, true, false, not, ◌&&◌, ◌||◌, false≢true}
 use Prim.Native.Nat.{ℕ, zero, suc, ◌+◌, ◌≤◌, ◌<◌}
@@ -133,12 +133,12 @@ says_first (s ∷ t ∷ later) h o c =
         let p = or_go s.its (first_of (t ∷ later)) z in
         let c' : Clear (first_of (t ∷ later)) → ⊥ = λ y. c (rw p y) in
         let some = first_gives (t ∷ later) h.1 c' in
-        rw p (λ m. absurd (apart (first_of (t ∷ later)).number s.numbers (numbers_of (t ∷ later)) own m some), λ m. z, k c')
+        subst (λ x. Says x (s ∷ t ∷ later)) (sym p) (λ m. absurd (apart (first_of (t ∷ later)).number s.numbers (numbers_of (t ∷ later)) own m some), λ m. z, k c')
     go false e k =
         let ne = eqb-false _ 0 e in
         let p = or_stop s.its (first_of (t ∷ later)) ne in
         let none : member s.its.number (numbers_of (t ∷ later)) ≡ true → ⊥ = λ m. apart s.its.number s.numbers (numbers_of (t ∷ later)) own (h.0 ne) m in
-        rw p (λ m. refl, λ m. absurd (none m), says_none s.its (t ∷ later) none)
+        subst (λ x. Says x (s ∷ t ∷ later)) (sym p) (λ m. refl, λ m. absurd (none m), says_none s.its (t ∷ later) none)
 
 pub refusal_is_first : (ss : List Section) → AllGive ss → own_numbers ss ≡ true → (Clear (first_of ss) → ⊥) → IsFirst (first_of ss) ss
 refusal_is_first ss h o c = record { has = first_gives ss h c; says = says_first ss h o c }

@@ -1,10 +1,9 @@
 -- The order of floats: what a maximum is not above.
-use Rattle.std.proofs.Common.{◌≡◌, ℕ, zero, suc, ◌+◌, ◌-◌, ◌*◌, ◌^◌, ◌<◌, ◌≤◌, Bool, true, false, cond, not, ◌&&◌, ◌||◌, T, eqb, ltb, ◌↔◌, sym, refl, ap, ◌∙◌, subst, ap₂, true≢false, mul-le-mul_right, mul-lt-mul_of_pos_right, arith, ltb-false, ltb-true, le-ltb, lt-ltb, eqb-true}
+use Rattle.std.proofs.Common.{◌≡◌, ℕ, zero, suc, ◌+◌, ◌*◌, ◌^◌, ◌<◌, ◌≤◌, Bool, true, false, cond, T, ltb, ◌↔◌, sym, refl, ap, ◌∙◌, subst, true≢false, mul-le-mul_right, mul-lt-mul_of_pos_right, arith, ltb-false, ltb-true, le-ltb, lt-ltb}
 use mathlib.Core.Bool.{false≢true}
 use lib.Ieee.{Float, nan, inf, fin, binary64, up, down, below, lt, ne, is_nan, to_bits}
 use lib.Ieee.Compare.{differs_from_itself, nan_differs}
 use lib.Ieee.Fits.{down_pos}
-use borrow.Author.Tests.{eqb-false}
 use Rattle.float.specs.Number.{maximum}
 
 -- ---- fractions: t < a, and not b < a, so t < b

@@ -1,8 +1,7 @@
-use Rattle.std.proofs.Common.{◌≡◌, ℕ, ◌+◌, ◌-◌, ◌*◌, ◌/◌, ◌^◌, ◌<◌, ◌≤◌, min, Bool, true, false, not, T, ltb, pos, sym, refl, ap, ◌∙◌, subst, le-div_iff_mul-le, arith, rules, ltb-false}
-use lib.Ieee.{Float, nan, inf, fin, binary64, lt, neg, of_bits, to_unsigned, up, down}
+use Rattle.std.proofs.Common.{◌≡◌, ℕ, ◌+◌, ◌-◌, ◌*◌, ◌/◌, ◌^◌, ◌<◌, ◌≤◌, min, Bool, true, false, not, T, ltb, pos, sym, refl, subst, le-div_iff_mul-le, arith, ltb-false}
+use lib.Ieee.{Float, nan, inf, fin, lt, neg, of_bits, to_unsigned, up, down}
 use lib.Ieee.Fits.{down_pos}
-use Rattle.float.proofs.truncate.Statement.{statement}
-use Rattle.float.proofs.truncate.Tie as tie
+use Rattle.float.proofs.truncate.Goals as goal
 
 no : {X : Type 0} → false ≡ true → X
 no e = absurd (subst (λ (t : Bool). T (not t)) e tt)
@@ -34,20 +33,14 @@ small (inf false) h = no (sym h)
 small (fin true m e) h = refl
 small (fin false m e) h = absurd (above-l (1 * 1 * down e) (m * up e * 1) (let d = down_pos e in omega arith) h)
 
-truncating-f64-to-u64-requires : tie.Need-truncating-f64-to-u64-requires
+pub truncating_f64_to_u64-requires : goal.truncating_f64_to_u64-requires
 unfolding of_bits neg
-truncating-f64-to-u64-requires c κs = (subst T (sym c.before.if1.true) tt, subst T (sym c.if2.true) tt)
+truncating_f64_to_u64-requires c = record { lower_bound = subst T (sym c.if-x.true) tt; upper_bound = subst T (sym c.if-x-2.true) tt }
 
-returns : tie.Need-returns
-returns c = search rules
-
-returns-2 : tie.Need-returns-2
+pub returns-else-x-2 : goal.returns-else-x-2
 unfolding of_bits neg
-returns-2 c = large c.before.before.args.x c.before.if1.true c.if2.false
+returns-else-x-2 c = large c.args.x c.if-x.true c.if-x-2.false
 
-returns-3 : tie.Need-returns-3
+pub returns-else-x : goal.returns-else-x
 unfolding of_bits neg
-returns-3 c = small c.before.args.x c.if1.false
-
-pub truncate-spec : {M : Type 1} → statement M
-truncate-spec = tie.close (tie.spec truncating-f64-to-u64-requires returns returns-2 returns-3)
+returns-else-x c = small c.args.x c.if-x.false

@@ -1,8 +1,7 @@
 use Rattle.std.proofs.Common.{◌≡◌, true, false, ◌&&◌, refl}
-use lib.Ieee.{Float, nan, inf, fin, binary64, lt, neg, div, of_bits}
+use lib.Ieee.{Float, nan, inf, fin, lt, neg, div, of_bits}
 use Rattle.float.specs.Number.{is_finite}
-use Rattle.float.proofs.is_finite.Statement.{statement}
-use Rattle.float.proofs.is_finite.Tie as tie
+use Rattle.float.proofs.is_finite.Goals as goal
 
 between : (x : Float) → (lt (inf true) x && lt x (inf false)) ≡ is_finite x
 unfolding lt is_finite
@@ -11,9 +10,6 @@ between (inf true) = refl
 between (inf false) = refl
 between (fin s m e) = refl
 
-returns : tie.Need-returns
+pub returns : goal.returns
 unfolding div neg of_bits
 returns c = between c.args.x
-
-pub is-finite-spec : {M : Type 1} → statement M
-is-finite-spec = tie.close (tie.spec returns)
