@@ -1,5 +1,6 @@
 // Lists of numbers, lent or scratch: the front copied, the first number that is not finite, and refusal 13.
 #![tactic(auto)]
+
 ghost use Rattle.std.specs.Prelude.{◌≡◌, ◌++◌, ◌+◌, ◌<◌, ◌≤◌, length, take, drop};
 ghost use Rattle.lists.specs.Finite.{point_fault};
 ghost use Rattle.lists.specs.internal.From.{non_finite_from};
