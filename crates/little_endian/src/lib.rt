@@ -1,5 +1,6 @@
 // Numbers of 32 and 64 bits from a list of bytes, the lowest byte first.
 #![tactic(auto)]
+
 ghost use Rattle.std.specs.Prelude.{◌≡◌, ◌+◌, ◌*◌, ◌≤◌, ◌<◌, length};
 ghost use Rattle.little_endian.specs.Bytes.{word_at, bits_at, number_at, record_word};
 
