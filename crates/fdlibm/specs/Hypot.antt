@@ -1,5 +1,5 @@
 -- fdlibm 5.3's e_hypot.c. k is kept as 1023 + k, the exponent's field of 2^k.
-use Rattle.std.specs.Prelude.{ℕ, ◌+◌, ◌-◌, ◌*◌, ◌/◌, ◌%◌, ◌^◌, cond, ltb, leb, eqb, Float}
+use Rattle.std.specs.Prelude.{ℕ, ◌+◌, ◌-◌, ◌*◌, ◌%◌, ◌^◌, cond, ltb, leb, eqb, Float}
 use Rattle.std.specs.Float.{binary64}
 use Rattle.std.specs.Float.Ieee.{to_bits, of_bits, neg, lt}
 use Rattle.float.specs.Number.{◌⊕◌, ◌⊖◌, ◌⊗◌, high_word, absolute}

@@ -1,6 +1,6 @@
 // fdlibm's __ieee754_rem_pio2 up to 2^19*pi/2: x less a multiple of pi/2, in two parts, with the multiple's last two bits.
 ghost use Rattle.std.specs.Prelude.{◌≡◌, ◌<◌, ◌-◌, get_or};
-ghost use Rattle.fdlibm.specs.RemPio2.{two_parts, third_iteration, exponent_field, second_iteration, npio2-hw, no_cancellation};
+ghost use Rattle.fdlibm.specs.RemPio2.{two_parts, third_iteration, exponent_field, second_iteration, npio2_hw, no_cancellation};
 ghost use Rattle.fdlibm.specs.RemPio2.{first_iteration, medium, near_positive, two_parts_negative, near_negative, signed, rem_pio2};
 
 // The high words of n*pi/2, n from 1 to 32.
@@ -69,7 +69,7 @@ fn second_iteration(j: u64, n: u64, f: f64, t: f64) -> Reduced
 
 fn multiple_hw(n: u64) -> u64
     requires { n < 32 }
-    ensures { result ≡ get_or npio2-hw (n - 1) 0 }
+    ensures { result ≡ get_or npio2_hw (n - 1) 0 }
 {
     if n < 1 {
         NPIO2_HW[0]
