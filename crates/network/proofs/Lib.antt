@@ -1,4 +1,4 @@
 pub mod Places
 pub mod Numbers
 pub mod Steps
-pub mod Form
+pub mod Forms

@@ -5,6 +5,8 @@ use mathlib.Core.List.{List}
 use Prim.Native.Nat.{ℕ, suc, ◌+◌, ◌*◌, ◌≤◌, ◌<◌}
 use lib.Dec.{eqb}
 use lib.ListN.{get_or}
+use native.Mathlib.Omega.{arith}
+use native.Mathlib.Numerals.{add-one}
 use Rattle.base.specs.Loop.{loop, tally}
 use Rattle.base.specs.Word.{kind_of}
 use Rattle.network.specs.Word.{generator_points}
@@ -14,6 +16,21 @@ use Rattle.network.proofs.Numbers.{generator_next, generator_fits}
 pub kind_next : (ws : List ℕ) (kind i : ℕ) → kind_before ws kind (suc i) ≡ cond (eqb (kind_of (get_or ws i 0)) kind) (suc (kind_before ws kind i)) (kind_before ws kind i)
 unfolding kind_before tally loop
 kind_next ws kind i = refl
+
+-- ---- counts
+
+-- so many of the first i words have the kind
+pub record Held (ws : List ℕ) (kind i count : ℕ) : Type 0 where
+  pub few : count ≤ i
+  pub is : count ≡ kind_before ws kind i
+
+pub held_none : (ws : List ℕ) (kind : ℕ) → Held ws kind 0 0
+unfolding kind_before tally loop
+held_none ws kind = record { few = omega arith; is = refl }
+
+pub held_next : {ws : List ℕ} {kind i count more : ℕ} → Held ws kind i count
+    → (more ≡ cond (eqb (kind_of (get_or ws i 0)) kind) (suc count) count) × (more ≤ count + 1) → Held ws kind (i + 1) more
+held_next H (e, f) = record { few = omega (arith, H.few); is = rw (add-one, kind_next, ← H.is, e) }
 
 -- ---- places
 

@@ -31,7 +31,7 @@ pub const MOST_POINTS: usize = 9;
 
 // The counts, the place of the first word and of the first number of each kind (the buses' words start at 1, their numbers at 0), and the
 // header's flag.
-#[derive(Drop)]
+#[derive(Clone, Copy)]
 pub struct Layout {
     pub buses: usize,
     pub generators: usize,
@@ -46,7 +46,7 @@ pub struct Layout {
 }
 
 // A generator's index and the place of its first number.
-#[derive(Drop)]
+#[derive(Clone, Copy)]
 pub struct Cursor {
     pub index: usize,
     pub at: usize,

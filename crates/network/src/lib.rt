@@ -1,5 +1,6 @@
 // The network file: its words and numbers, where they stand, and refusals 1 to 3.
 #![tactic(auto)]
+
 mod formed;
 mod layout;
 mod limits;

@@ -11,7 +11,7 @@ use crate::word::{
     generator_bus, generator_points, reference_bus,
 };
 
-#[derive(Drop)]
+#[derive(Clone, Copy)]
 pub struct Bus {
     pub bounded: bool,
     pub p_d: f64,
@@ -25,7 +25,7 @@ pub struct Bus {
 }
 
 // `curve` is the place of the curve's first number; `curved`: it has an epigraph column.
-#[derive(Drop)]
+#[derive(Clone, Copy)]
 pub struct Generator {
     pub bus: usize,
     pub bounded: bool,
@@ -44,7 +44,7 @@ pub struct Generator {
 }
 
 // `rated`: it has thermal rows.
-#[derive(Drop)]
+#[derive(Clone, Copy)]
 pub struct Branch {
     pub from: usize,
     pub to: usize,

@@ -3,7 +3,7 @@ ghost use Rattle.std.specs.Prelude.{◌≡◌, cond, suc, ◌+◌, ◌<◌, ◌�
 ghost use Rattle.base.specs.Word.{kind_of};
 ghost use Rattle.network.specs.Network.{buses, generators, branches, references};
 
-#[derive(Drop)]
+#[derive(Clone, Copy)]
 pub struct Sizes {
     pub buses: usize,
     pub generators: usize,

@@ -15,7 +15,7 @@ use Rattle.tables.specs.Fault.{fault_blank, fault_curve, fault_shift, fault_boun
 use Rattle.network.specs.declared.layout.Layout.{Layout}
 use Rattle.network.specs.declared.formed.Form.{Form}
 use Rattle.network.specs.Layout.{layout_of, LaidWords, Laid, Formed}
-use Rattle.network.proofs.Form.{laid_words, laid_form, formed_clear}
+use Rattle.network.proofs.Forms.{laid_words, laid_form, formed_clear}
 
 or_assoc : (f g h : Fault) → or_else (or_else f g) h ≡ or_else f (or_else g h)
 unfolding or_else

@@ -1,7 +1,7 @@
 use mathlib.Core.Path.{refl, sym, ◌∙◌}
 use borrow.Author.Rules.{rules}
 use Rattle.base.proofs.Turns.{link_go, link_stop}
-use Rattle.network.proofs.Form.{formed_stop, formed_clear, formed_form}
+use Rattle.network.proofs.Forms.{formed_stop, formed_clear, formed_form}
 use Rattle.tables.proofs.Laid.{tables_form}
 use Rattle.tables.proofs.tables.tables_of.Statement.{statement}
 use Rattle.tables.proofs.tables.tables_of.Tie as tie
