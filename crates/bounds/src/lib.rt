@@ -1,5 +1,6 @@
 // The Rust's small functions on bounds and starts, and document 01's range of angles.
 #![tactic(auto)]
+
 ghost use Rattle.std.specs.Prelude.{◌≡◌, not, ◌||◌};
 ghost use Rattle.bounds.specs.Bounds.{finite_or, clamp_start, bounds_right, angle_right, positive_violation};
 
