@@ -6,7 +6,7 @@ use native.Mathlib.Omega.{arith}
 use native.Mathlib.Nat.{zero-add}
 use lib.ListN.{length, drop}
 use Rattle.base.specs.Word.{word, kind_of}
-use Rattle.nl.specs.Expr.{load_limit, shared, Terms, none, more, count, constants, constants_of, next, words}
+use Rattle.nl.specs.Expr.{load_limit, Terms, none, more, count, constants, constants_of, next, words}
 use Rattle.nl.specs.File.{Model, part_words, at_rows, at_objective, model_words, model_constants, PartsRuled, depth_limit, StandsFor}
 use Rattle.nl.proofs.Words.{kind_word, cancel}
 use Rattle.nl.proofs.Build.{unique, drop_past}

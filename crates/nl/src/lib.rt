@@ -5,6 +5,7 @@
 // A sum that claims 2^28 terms stops where the words stop. Each part takes its beginning word. So the finder ends after steps in
 // proportion to the words, whatever they are, and the calls nest 9 deep at most.
 #![tactic(auto)]
+
 ghost use Rattle.std.specs.Prelude.{◌≡◌, cond, eqb, ltb, length, ◌+◌, ◌*◌};
 ghost use Rattle.std.specs.Float.Ieee.{eq};
 ghost use Rattle.base.specs.Fault.{packed};
