@@ -1,5 +1,6 @@
 // How far a branch is above its rating, with no hypotenuse worked out where a quick test shows that it is not.
 #![tactic(auto)]
+
 ghost use Rattle.std.specs.Prelude.{◌≡◌};
 ghost use Rattle.float.specs.Number.{◌⊖◌, zero64, maximum};
 ghost use Rattle.fdlibm.specs.Hypot.{hypotenuse};
