@@ -3,7 +3,8 @@
 // point has two. Networks through compile: number and place, the five counts, the objective constant's bits, and the bits of the constants
 // and starts. The file written, through the finder: number and place, and where the row's part starts and how long it is.
 #![tactic(auto)]
-use libc::STDOUT_FILENO;
+
+use std::io;
 
 const WORDS: [u32; 4] = [0x10000001, 0x20000001, 0x30001000, 0x50000000];
 
@@ -16,12 +17,18 @@ fn numbers(va: f64, vm: f64, pmin: f64, pmax: f64) -> [f64; 17] {
     ]
 }
 
-fn print(n: u64) {
-    io::print_decimal(STDOUT_FILENO, n);
-    io::write_all(STDOUT_FILENO, b" ");
+fn print(rt: &impl Print, n: u64) -> io::Result<()> {
+    print!(rt; "{n} ")
 }
 
-fn show(words: &[u32], pmin: f64, pmax: f64, point: &[f64], solver: f64) {
+fn show(
+    rt: &impl Print,
+    words: &[u32],
+    pmin: f64,
+    pmax: f64,
+    point: &[f64],
+    solver: f64,
+) -> io::Result<()> {
     let mut outputs = [7.0; 3];
     let answer = validate::check(
         words,
@@ -33,50 +40,70 @@ fn show(words: &[u32], pmin: f64, pmax: f64, point: &[f64], solver: f64) {
     );
     let fault = answer.fault;
     let residuals = answer.residuals;
-    print(fault.number as u64);
-    print(fault.place as u64);
-    print(float::to_bits(answer.objective));
-    print(float::to_bits(residuals[0]));
-    print(float::to_bits(outputs[0]));
-    print(float::to_bits(outputs[1]));
-    print(float::to_bits(outputs[2]));
-    io::write_all(STDOUT_FILENO, b"\n");
+    print(rt, fault.number as u64)?;
+    print(rt, fault.place as u64)?;
+    print(rt, float::to_bits(answer.objective))?;
+    print(rt, float::to_bits(residuals[0]))?;
+    print(rt, float::to_bits(outputs[0]))?;
+    print(rt, float::to_bits(outputs[1]))?;
+    print(rt, float::to_bits(outputs[2]))?;
+    println!(rt)
 }
 
-fn print_bits(list: &[f64]) {
+fn print_bits(rt: &impl Print, list: &[f64]) -> io::Result<()> {
     let mut i = 0usize;
     while i < list.len() {
-        print(float::to_bits(list[i]));
+        print(rt, float::to_bits(list[i]))?;
         i += 1;
     }
-    io::write_all(STDOUT_FILENO, b"\n");
+    println!(rt)
 }
 
 // Rows 0 to 3 of a file of `count` words.
-fn show_rows(list: &[u32], count: usize, constants: usize, columns: usize) {
+fn show_rows(
+    rt: &impl Print,
+    list: &[u32],
+    count: usize,
+    constants: usize,
+    columns: usize,
+) -> io::Result<()> {
     if list.len() < count {
-        return;
+        return Ok(());
     }
     let file = &list[..count];
     let mut r = 0usize;
     while r < 4 {
         let fault = nl::find_row(file, constants, columns, r);
-        print(fault.number as u64);
-        print(fault.place as u64);
-        print(nl::fervoulk_row_start(file, constants, columns, r) as u64);
-        print(nl::fervoulk_row_length(file, constants, columns, r) as u64);
-        io::write_all(STDOUT_FILENO, b"\n");
+        print(rt, fault.number as u64)?;
+        print(rt, fault.place as u64)?;
+        print(
+            rt,
+            nl::fervoulk_row_start(file, constants, columns, r) as u64,
+        )?;
+        print(
+            rt,
+            nl::fervoulk_row_length(file, constants, columns, r) as u64,
+        )?;
+        println!(rt)?;
         r += 1;
     }
+    Ok(())
 }
 
 // The file, and the same without its last word.
-fn show_files(list: &[u32], constants: usize, columns: usize) {
-    show_rows(list, 29, constants, columns);
-    show_rows(list, 28, constants, columns);
+fn show_files(rt: &impl Print, list: &[u32], constants: usize, columns: usize) -> io::Result<()> {
+    show_rows(rt, list, 29, constants, columns)?;
+    show_rows(rt, list, 28, constants, columns)
 }
 
-fn show_model(words: &[u32], va: f64, vm: f64, pmin: f64, pmax: f64) {
+fn show_model(
+    rt: &impl Print,
+    words: &[u32],
+    va: f64,
+    vm: f64,
+    pmin: f64,
+    pmax: f64,
+) -> io::Result<()> {
     let mut file = [0u32; 32];
     let mut constants = [7.0; 7];
     let mut lower = [7.0; 5];
@@ -95,41 +122,42 @@ fn show_model(words: &[u32], va: f64, vm: f64, pmin: f64, pmax: f64) {
         &mut row_lower,
         &mut row_upper,
     );
-    print(answer.fault.number as u64);
-    print(answer.fault.place as u64);
-    print(answer.words as u64);
-    print(answer.constants as u64);
-    print(answer.columns as u64);
-    print(answer.rows as u64);
-    print(answer.shared as u64);
-    print_bits(&[answer.objective]);
-    print_bits(&constants);
-    print_bits(&lower);
-    print_bits(&upper);
-    print_bits(&start);
-    print_bits(&row_lower);
-    print_bits(&row_upper);
-    show_files(&file, answer.constants, answer.columns);
+    print(rt, answer.fault.number as u64)?;
+    print(rt, answer.fault.place as u64)?;
+    print(rt, answer.words as u64)?;
+    print(rt, answer.constants as u64)?;
+    print(rt, answer.columns as u64)?;
+    print(rt, answer.rows as u64)?;
+    print(rt, answer.shared as u64)?;
+    print_bits(rt, &[answer.objective])?;
+    print_bits(rt, &constants)?;
+    print_bits(rt, &lower)?;
+    print_bits(rt, &upper)?;
+    print_bits(rt, &start)?;
+    print_bits(rt, &row_lower)?;
+    print_bits(rt, &row_upper)?;
+    show_files(rt, &file, answer.constants, answer.columns)
 }
 
-fn main() {
+fn main(rt: HostRuntime) -> io::Result<()> {
     let infinity = 1.0 / 0.0;
-    show(&WORDS, 0.0, 2.0, &[0.0, 1.0, 1.0, 0.25], 8.0);
-    show(&WORDS, 0.0, 2.0, &[1e-6, 1.0, 1.0, 0.25], 8.0);
+    show(&rt, &WORDS, 0.0, 2.0, &[0.0, 1.0, 1.0, 0.25], 8.0)?;
+    show(&rt, &WORDS, 0.0, 2.0, &[1e-6, 1.0, 1.0, 0.25], 8.0)?;
     show(
+        &rt,
         &WORDS,
         0.0,
         2.0,
         &[1.0000000000000002e-6, 1.0, 1.0, 0.25],
         8.0,
-    );
-    show(&WORDS, 0.0, 2.0, &[0.0, 1.0, 1.5, 0.25], 10.75);
-    show(&WORDS, 0.0, 2.0, &[0.0, 1.0, 1.0], 8.0);
-    show(&WORDS, 0.0, 2.0, &[0.0, 1.0, 1.0, 0.25], infinity);
-    show(&WORDS, 2.0, 1.0, &[0.0, 1.0, 1.0, 0.25], 8.0);
-    show(&INACTIVE, 2.0, 1.0, &[0.0, 1.0, 1.0, 0.25], 8.0);
-    show_model(&WORDS, 0.0, 1.0, 0.0, 2.0);
-    show_model(&WORDS, 7.0, 1.25, 0.0, 2.0);
-    show_model(&WORDS, 0.0, 1.0, 2.0, 1.0);
-    show_model(&INACTIVE, 0.0, 1.0, 2.0, 1.0);
+    )?;
+    show(&rt, &WORDS, 0.0, 2.0, &[0.0, 1.0, 1.5, 0.25], 10.75)?;
+    show(&rt, &WORDS, 0.0, 2.0, &[0.0, 1.0, 1.0], 8.0)?;
+    show(&rt, &WORDS, 0.0, 2.0, &[0.0, 1.0, 1.0, 0.25], infinity)?;
+    show(&rt, &WORDS, 2.0, 1.0, &[0.0, 1.0, 1.0, 0.25], 8.0)?;
+    show(&rt, &INACTIVE, 2.0, 1.0, &[0.0, 1.0, 1.0, 0.25], 8.0)?;
+    show_model(&rt, &WORDS, 0.0, 1.0, 0.0, 2.0)?;
+    show_model(&rt, &WORDS, 7.0, 1.25, 0.0, 2.0)?;
+    show_model(&rt, &WORDS, 0.0, 1.0, 2.0, 1.0)?;
+    show_model(&rt, &INACTIVE, 0.0, 1.0, 2.0, 1.0)
 }

@@ -1,5 +1,6 @@
 // The program `depot` but for reading and writing: from the bytes of standard input to the text for standard output.
 #![tactic(auto)]
+
 mod answer;
 mod input;
 mod text;

@@ -1,10 +1,11 @@
 // Calls sine, cosine, square root and hypotenuse on the vectors of data/vectors.bin (tests/fdlibm/README.md says how they were made)
 // and prints how many there were of each, and how many answers were not the stored one to the bit.
 #![tactic(auto)]
+
 ghost use Rattle.std.specs.Prelude.{◌+◌, ◌≤◌, length};
 
-use libc::STDOUT_FILENO;
 use little_endian::bits_at;
+use std::{fs, io};
 
 const RECORD: usize = 32;
 
@@ -95,8 +96,8 @@ fn all_tried(counts: Counts, bytes: &[u8]) -> Counts {
     c
 }
 
-// The whole file. Nothing says that a file ends, so the loop has a number of turns that no run uses up.
-fn file_tried(fd: i32) -> Counts {
+// The whole file, in parts of 4,096 bytes.
+fn file_tried(bytes: &[u8]) -> Counts {
     let mut c = Counts {
         sin: 0,
         cos: 0,
@@ -104,41 +105,26 @@ fn file_tried(fd: i32) -> Counts {
         hypot: 0,
         wrong: 0,
     };
-    let mut turns = u64::MAX;
-    while turns > 0 {
-        let mut buffer = io::buffer();
-        let n = io::read_full(fd, &mut buffer);
-        if n == 0 {
-            return c;
-        }
-        c = all_tried(c, &buffer[..n]);
-        turns -= 1;
+    for part in bytes.chunks(4096) {
+        c = all_tried(c, part);
     }
     c
 }
 
-fn print(name: &[u8], n: u64) {
-    io::write_all(STDOUT_FILENO, name);
-    io::print_decimal(STDOUT_FILENO, n);
+fn print(rt: &impl Print, name: &str, n: u64) -> io::Result<()> {
+    print!(rt; "{name}{n}")
 }
 
-fn print_counts(c: Counts) {
-    print(b"sin ", c.sin);
-    print(b" cos ", c.cos);
-    print(b" sqrt ", c.sqrt);
-    print(b" hypot ", c.hypot);
-    print(b" wrong ", c.wrong);
-    io::write_all(STDOUT_FILENO, b"\n");
+fn print_counts(rt: &impl Print, c: Counts) -> io::Result<()> {
+    print(rt, "sin ", c.sin)?;
+    print(rt, " cos ", c.cos)?;
+    print(rt, " sqrt ", c.sqrt)?;
+    print(rt, " hypot ", c.hypot)?;
+    print(rt, " wrong ", c.wrong)?;
+    println!(rt)
 }
 
-fn main() {
-    let path = b"vectors.bin";
-    let fd = os::open_read(path);
-    if fd < 0 {
-        os::fail(path);
-        return;
-    }
-    let counts = file_tried(fd);
-    libc::close(fd);
-    print_counts(counts);
+fn main(rt: HostRuntime) -> io::Result<()> {
+    let bytes = fs::read(&rt, "vectors.bin")?;
+    print_counts(&rt, file_tried(bytes.as_slice()))
 }

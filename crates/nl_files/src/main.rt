@@ -1,13 +1,18 @@
 // Replays the model files of data/files, each with the answer that document 01 gives of it (tests/nl/files.py, which says how a
 // record is laid out), and prints how many there are and for how many an answer is another.
 #![tactic(auto)]
+
 ghost use Rattle.std.specs.Prelude.{◌≡◌, ◌≤◌, ◌<◌, length};
 
-use libc::STDOUT_FILENO;
 use little_endian::{record_number, record_word};
+use std::io::Read;
+use std::{fs, io};
 
 // The most words that a record's file has.
 const MOST: usize = 64;
+
+// The most bytes of data/files that are read.
+const LARGEST: u64 = 65536;
 
 // The record's words from word i on.
 fn words_at(data: &[u8], at: usize, i: usize) -> [u32; 64]
@@ -203,22 +208,14 @@ fn replay(data: &[u8]) -> Tally {
     Tally { files, wrong }
 }
 
-fn print(t: Tally) {
-    io::print_decimal(STDOUT_FILENO, t.files as u64);
-    io::write_all(STDOUT_FILENO, b" files, ");
-    io::print_decimal(STDOUT_FILENO, t.wrong as u64);
-    io::write_all(STDOUT_FILENO, b" wrong\n");
+fn print(rt: &impl Print, t: Tally) -> io::Result<()> {
+    println!(rt; "{} files, {} wrong", t.files, t.wrong)
 }
 
-fn main() {
-    let path = b"files";
-    let file = os::open_read(path);
-    if file < 0 {
-        os::fail(path);
-        return;
-    }
-    let mut buffer = io::large_buffer();
-    let n = io::read_full(file, &mut buffer);
-    libc::close(file);
-    print(replay(&buffer[..n]));
+fn main(rt: HostRuntime) -> io::Result<()> {
+    let mut bytes = Vec::new(rt.alloc());
+    fs::open(&rt, "files")?
+        .take(LARGEST)
+        .read_to_end(&mut bytes)?;
+    print(&rt, replay(bytes.as_slice()))
 }

@@ -1,17 +1,21 @@
 // Replays the original Rust's answers of data/answers (tests/differential/src/bin/store.rs says how a record is laid out and how they were
 // chosen) through compile and the check, and prints how many there are and for how many the answer or a list is another.
 #![tactic(auto)]
+
 ghost use Rattle.std.specs.Prelude.{◌≡◌, ◌+◌, ◌≤◌, ◌<◌, length};
 
 use base::Fault;
 use compile::Compiled;
-use libc::STDOUT_FILENO;
 use little_endian::{bits_at, word_at};
+use std::{fs, io};
 
 // The most words, and the most numbers, columns or outputs that a record has.
 const WORDS: usize = 32;
 
 const NUMBERS: usize = 256;
+
+// The bytes of a part of the file: no record stands in two of them.
+const PART: usize = 65536;
 
 // The record's cell i, where the record starts at cell `at`; 0 past the data.
 fn cell(bytes: &[u8], at: usize, i: usize) -> u64 {
@@ -381,40 +385,23 @@ fn replay(tally: Tally, bytes: &[u8]) -> Tally {
     t
 }
 
-// The whole file. Nothing says that a file ends, so the loop has a number of turns that no run uses up.
-fn file_replayed(fd: i32) -> Tally {
+// The whole file.
+fn file_replayed(bytes: &[u8]) -> Tally {
     let mut t = Tally {
         answers: 0,
         wrong: 0,
     };
-    let mut turns = u64::MAX;
-    while turns > 0 {
-        let mut buffer = io::large_buffer();
-        let n = io::read_full(fd, &mut buffer);
-        if n == 0 {
-            return t;
-        }
-        t = replay(t, &buffer[..n]);
-        turns -= 1;
+    for part in bytes.chunks(PART) {
+        t = replay(t, part);
     }
     t
 }
 
-fn print(t: Tally) {
-    io::print_decimal(STDOUT_FILENO, t.answers);
-    io::write_all(STDOUT_FILENO, b" answers, ");
-    io::print_decimal(STDOUT_FILENO, t.wrong);
-    io::write_all(STDOUT_FILENO, b" wrong\n");
+fn print(rt: &impl Print, t: Tally) -> io::Result<()> {
+    println!(rt; "{} answers, {} wrong", t.answers, t.wrong)
 }
 
-fn main() {
-    let path = b"answers";
-    let file = os::open_read(path);
-    if file < 0 {
-        os::fail(path);
-        return;
-    }
-    let t = file_replayed(file);
-    libc::close(file);
-    print(t);
+fn main(rt: HostRuntime) -> io::Result<()> {
+    let bytes = fs::read(&rt, "answers")?;
+    print(&rt, file_replayed(bytes.as_slice()))
 }

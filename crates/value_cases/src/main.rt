@@ -1,12 +1,17 @@
 // Replays the cases of row values of data/cases (tests/row_values/cases.py says where they come from and how a record is laid out), and
 // prints how many there are and for how many an answer or a list is another.
 #![tactic(auto)]
+
 ghost use Rattle.std.specs.Prelude.{◌≡◌, ◌≤◌, ◌<◌, length};
 
 use base::Fault;
-use libc::STDOUT_FILENO;
 use little_endian::{number_at, record_number, record_word};
 use row_values::RowValues;
+use std::io::Read;
+use std::{fs, io};
+
+// The most bytes of data/cases that are read.
+const LARGEST: u64 = 65536;
 
 // The double of which word i is the low half; 0 past the data.
 fn double(data: &[u8], at: usize, i: usize) -> f64 {
@@ -278,22 +283,14 @@ fn replay(data: &[u8]) -> Tally {
     Tally { cases, wrong }
 }
 
-fn print(t: Tally) {
-    io::print_decimal(STDOUT_FILENO, t.cases as u64);
-    io::write_all(STDOUT_FILENO, b" cases, ");
-    io::print_decimal(STDOUT_FILENO, t.wrong as u64);
-    io::write_all(STDOUT_FILENO, b" wrong\n");
+fn print(rt: &impl Print, t: Tally) -> io::Result<()> {
+    println!(rt; "{} cases, {} wrong", t.cases, t.wrong)
 }
 
-fn main() {
-    let path = b"cases";
-    let file = os::open_read(path);
-    if file < 0 {
-        os::fail(path);
-        return;
-    }
-    let mut buffer = io::large_buffer();
-    let n = io::read_full(file, &mut buffer);
-    libc::close(file);
-    print(replay(&buffer[..n]));
+fn main(rt: HostRuntime) -> io::Result<()> {
+    let mut bytes = Vec::new(rt.alloc());
+    fs::open(&rt, "cases")?
+        .take(LARGEST)
+        .read_to_end(&mut bytes)?;
+    print(&rt, replay(bytes.as_slice()))
 }
