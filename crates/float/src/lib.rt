@@ -21,7 +21,8 @@ pub fn from_bits(n: u64) -> f64
     ensures { result ≡ from_bits binary64 n }
 {
     let m = n % 0x8000_0000_0000_0000;
-    if m > 0x7ff0_0000_0000_0000 {
+    let nan = m > 0x7ff0_0000_0000_0000;
+    if nan {
         0.0 / 0.0
     } else {
         f64::from_bits(n)
@@ -69,7 +70,8 @@ pub fn is_finite(x: f64) -> bool
 pub fn absolute(x: f64) -> f64
     ensures { result ≡ absolute x }
 {
-    if to_bits(x) < 0x8000_0000_0000_0000 {
+    let positive = to_bits(x) < 0x8000_0000_0000_0000;
+    if positive {
         x
     } else {
         -x

@@ -23,8 +23,8 @@ set (inf false) f h = absurd (omega arith)
 set (fin true m e) f h = refl
 set (fin false m e) f h = let z = to_bits-lt binary64 (fin true m e) (neg-fits binary64 (fin false m e) f) in absurd (omega arith)
 
-pub returns-then-to_bits-lt9223372036854775808 : goal.returns-then-to_bits-lt9223372036854775808
-returns-then-to_bits-lt9223372036854775808 c = clear c.args.x (subst (λ (n : ℕ). n < 2 ^ 63) c.to_bits.ensures c.if-to_bits-lt9223372036854775808.true)
+pub returns-then-positive : goal.returns-then-positive
+returns-then-positive c = clear c.args.x (subst (λ (n : ℕ). n < 2 ^ 63) c.to_bits-positive.ensures c.if-positive.true)
 
-pub returns-else-to_bits-lt9223372036854775808 : goal.returns-else-to_bits-lt9223372036854775808
-returns-else-to_bits-lt9223372036854775808 c = set c.args.x (subst T (sym c.well_formed.0.1) tt) (subst (λ (n : ℕ). 2 ^ 63 ≤ n) c.to_bits.ensures c.if-to_bits-lt9223372036854775808.false)
+pub returns-else-positive : goal.returns-else-positive
+returns-else-positive c = set c.args.x (subst T (sym c.well_formed.0.1) tt) (subst (λ (n : ℕ). 2 ^ 63 ≤ n) c.to_bits-positive.ensures c.if-positive.false)

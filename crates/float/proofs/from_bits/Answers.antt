@@ -15,10 +15,10 @@ is-nan (fin s m x) e = absurd (subst (λ (t : Bool). T (not t)) e tt)
 pub float_from_bits-result : goal.float_from_bits-result
 float_from_bits-result c =
     let n = c.args.n in
-    subst (λ (t : Bool). T (not t)) (sym (nan_bits_above binary64 n ∙ le-ltb _ _ c.if-m-gt9218868437227405312.false)) tt
+    subst (λ (t : Bool). T (not t)) (sym (nan_bits_above binary64 n ∙ le-ltb _ _ c.if-nan.false)) tt
 
-pub returns-then-m-gt9218868437227405312 : goal.returns-then-m-gt9218868437227405312
+pub returns-then-nan : goal.returns-then-nan
 unfolding div of_bits
-returns-then-m-gt9218868437227405312 c =
+returns-then-nan c =
     let n = c.args.n in
-    is-nan (of_bits binary64 n) (sym (nan_bits_is binary64 n) ∙ nan_bits_above binary64 n ∙ lt-ltb _ _ c.if-m-gt9218868437227405312.true)
+    is-nan (of_bits binary64 n) (sym (nan_bits_is binary64 n) ∙ nan_bits_above binary64 n ∙ lt-ltb _ _ c.if-nan.true)
