@@ -1,5 +1,6 @@
 // A model file read without a point: where its parts stand, how many shared parts and rows it has, and its refusals 17 and 2.
 #![tactic(auto)]
+
 ghost use Rattle.std.specs.Prelude.{◌≡◌, cond, ◌-◌, leb};
 ghost use Rattle.base.specs.Fault.{fault, clear};
 ghost use Rattle.base.specs.Refusal.{SIZE};
