@@ -5,6 +5,7 @@ use mathlib.Core.Bool.{true}
 use Prim.Native.Nat.{ℕ, suc, ◌+◌, ◌<◌}
 use native.Mathlib.Omega.{arith}
 use lib.Dec.{T}
+use lib.ListN.{length}
 use lib.Ieee.{Float, nan, binary64, of_bits, to_bits, fits}
 use lib.Ieee.Bits.{of_bits-to_bits}
 use lib.Ieee.Fits.{div-fits, sub-fits}
@@ -79,7 +80,7 @@ RowFinite i r = AllFrom FiniteAt 0 (constants r.expression)
 row_patterns : (i j : ℕ) (l : List Row) → AllFrom FiniteAt i (constants_of (terms (map (λ r. r.expression) l))) → AllFrom RowFinite j l
 unfolding constants
 row_patterns i j [] h = tt
-row_patterns i j (r ∷ l) h = (moved i 0 (constants r.expression) (all_left FiniteAt i (constants r.expression) _ h), row_patterns _ (j + 1) l (all_right FiniteAt i (constants r.expression) _ h))
+row_patterns i j (r ∷ l) h = (moved i 0 (constants r.expression) (all_left FiniteAt i (constants r.expression) _ h), row_patterns (i + length (constants r.expression)) (j + 1) l (all_right FiniteAt i (constants r.expression) _ h))
 
 came_back : (x : Float) → T (fits binary64 x) → is_finite (of_bits binary64 (to_bits binary64 x)) ≡ true → is_finite x ≡ true
 came_back x f h = ap is_finite (sym (of_bits-to_bits binary64 x f)) ∙ h

@@ -1,5 +1,6 @@
 // The AC optimal power flow model: what compile_ac_opf_model builds and validate_primal starts from.
 #![tactic(auto)]
+
 mod columns;
 mod objective;
 mod tallies;

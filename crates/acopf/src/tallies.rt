@@ -8,7 +8,7 @@ ghost use Rattle.acopf.specs.Tallies.{segments_before, Tallied};
 
 use network::{Layout, branch_of, first_generator, generator_of, next_generator};
 
-#[derive(Drop)]
+#[derive(Clone, Copy)]
 pub struct Tallies {
     pub angles: usize,
     pub rated: usize,
