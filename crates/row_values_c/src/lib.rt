@@ -1,0 +1,62 @@
+// The functions of crate row_values for C, which a static library alone exports: each calls row_values' function of its name and states its
+// clauses again.
+#![tactic(auto)]
+
+ghost use Rattle.std.specs.Prelude.{◌≡◌, length};
+ghost use Rattle.base.specs.Fault.{packed};
+ghost use Rattle.model_reading.specs.Counts.{row_counts};
+ghost use Rattle.row_values.specs.Answer.{row_values, shared_after, rows_after};
+
+// The refusal's number times 2 to the power 32, plus its place, which is capped.
+#[unsafe(no_mangle)]
+pub extern "C" fn fervoulk_row_values(
+    words: &[u32],
+    constants: &[f64],
+    columns: usize,
+    point: &[f64],
+    shared: &mut [f64],
+    rows: &mut [f64],
+) -> u64
+    ensures { let ws = words.now in let xs = constants.now in let x = point.now in
+        let before = shared.old in let before_rows = rows.old in
+        (result ≡ packed (row_values ws xs columns x (length before) (length before_rows)).fault)
+        × (shared.new ≡ shared_after ws xs columns x before before_rows)
+        × (rows.new ≡ rows_after ws xs columns x before before_rows) }
+{
+    row_values::fervoulk_row_values(words, constants, columns, point, shared, rows)
+}
+
+// The objective's value, without the objective constant.
+#[unsafe(no_mangle)]
+pub extern "C" fn fervoulk_row_values_objective(
+    words: &[u32],
+    constants: &[f64],
+    columns: usize,
+    point: &[f64],
+    shared: &mut [f64],
+    rows: &mut [f64],
+) -> f64
+    ensures { let ws = words.now in let xs = constants.now in let x = point.now in
+        let before = shared.old in let before_rows = rows.old in
+        (result ≡ (row_values ws xs columns x (length before) (length before_rows)).objective)
+        × (shared.new ≡ shared_after ws xs columns x before before_rows)
+        × (rows.new ≡ rows_after ws xs columns x before before_rows) }
+{
+    row_values::fervoulk_row_values_objective(words, constants, columns, point, shared, rows)
+}
+
+// How many shared parts a model file has; 0 where 17 or 2 refuses it.
+#[unsafe(no_mangle)]
+pub extern "C" fn fervoulk_shared_count(words: &[u32], constants: usize, columns: usize) -> usize
+    ensures { result ≡ (row_counts words.now constants columns).shared }
+{
+    row_values::fervoulk_shared_count(words, constants, columns)
+}
+
+// How many rows it has; 0 likewise.
+#[unsafe(no_mangle)]
+pub extern "C" fn fervoulk_row_count(words: &[u32], constants: usize, columns: usize) -> usize
+    ensures { result ≡ (row_counts words.now constants columns).rows }
+{
+    row_values::fervoulk_row_count(words, constants, columns)
+}
