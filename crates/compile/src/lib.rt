@@ -1,10 +1,15 @@
 // compile_ac_opf_model: from the network file to the model file.
 #![tactic(auto)]
+
 mod boundary;
 mod decide;
 mod model;
 
 use base::Fault;
+pub use boundary::{
+    fervoulk_columns, fervoulk_compile, fervoulk_constants, fervoulk_objective_constant,
+    fervoulk_rows, fervoulk_shared, fervoulk_words,
+};
 pub use decide::sized;
 pub use model::compile;
 

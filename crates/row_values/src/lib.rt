@@ -6,6 +6,7 @@
 // refused any more: the rows from an array of as many as compile ever writes, or, where a foreign file has more, by going through its
 // rows again. The time is in proportion to the words.
 #![tactic(auto)]
+
 mod boundary;
 mod scan;
 
@@ -19,6 +20,9 @@ ghost use Rattle.row_values.specs.Answer.{room_of};
 ghost use Rattle.row_values.specs.internal.Run.{length_fault, Settled, Writable, rows_of};
 
 use base::{Fault, refusal};
+pub use boundary::{
+    fervoulk_row_count, fervoulk_row_values, fervoulk_row_values_objective, fervoulk_shared_count,
+};
 use lists::{copy_front, point_fault};
 use model_reading::{SHARED_LIMIT, row_counts};
 use scan::{File, FileScan, scan_file, scan_rows};
