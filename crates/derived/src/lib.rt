@@ -1,5 +1,6 @@
 // What validate_primal works out from a point: voltages, flows, injections, balances and the outputs; refusal 15, whose word is derived.
 #![tactic(auto)]
+
 mod bus;
 mod fill;
 mod finite;
