@@ -1,5 +1,6 @@
 // Refusal 11, whose word is factor, by the model's leaves and in time linear in the network; the first refusal of a network.
 #![tactic(auto)]
+
 mod factor;
 mod first;
 

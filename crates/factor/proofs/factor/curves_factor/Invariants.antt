@@ -1,0 +1,17 @@
+use mathlib.Core.Path.{◌≡◌}
+use Prim.Native.Nat.{◌+◌, ◌-◌, ◌*◌, ◌≤◌}
+use Rattle.base.specs.Fault.{first}
+use Rattle.base.proofs.Firsts.{Clear}
+use Rattle.network.specs.Limits.{most_points}
+use Rattle.network.specs.internal.Records.{Standing}
+use Rattle.acopf.specs.Tallies.{segments_before}
+use Rattle.factor.proofs.Turns.{curve_factor}
+use Rattle.factor.proofs.factor.curves_factor.Given as goal
+
+abbrev pub invariant-loop-cursor : goal.invariant-loop-cursor
+invariant-loop-cursor l =
+    Standing l.words l.layout l.cursor × (l.place ≡ l.start + 2 * segments_before l.words l.cursor.index) × (l.place ≤ l.start + 2 * most_points * l.cursor.index)
+    × Clear (first l.cursor.index (curve_factor l.words l.numbers l.start))
+
+abbrev pub decreases-loop-cursor : goal.decreases-loop-cursor
+decreases-loop-cursor l = l.layout.generators - l.cursor.index
