@@ -1,5 +1,6 @@
 // The model file in the making: its words by kind and load, and the writer that goes through words and constants at once.
 #![tactic(auto)]
+
 pub mod word;
 mod writer;
 
