@@ -4,6 +4,7 @@
 // that one comparison is both the reading rule and the bound of the read. Most operands are a constant, a column, a shared part or the
 // product of two such: these are tried first, without a call of their own.
 #![tactic(auto)]
+
 ghost use Rattle.std.specs.Prelude.{◌≡◌, true, cond, ◌&&◌, ℕ, suc, ◌<◌, eqb, length, get_or};
 ghost use Rattle.std.specs.Float.{binary64, nan};
 ghost use Rattle.std.specs.Float.Ieee.{of_bits};
