@@ -1,13 +1,14 @@
 // Compile's three column lists: lower, upper, start. Each is written section by section: va, vm, pg, qg, epigraphs.
 #![tactic(auto)]
-mod lists;
+
+mod column_lists;
 mod sections;
 mod values;
 
-pub use lists::{write_column_lower, write_column_start, write_column_upper};
+pub use column_lists::{write_column_lower, write_column_start, write_column_upper};
 
 // Which of the three lists.
-#[derive(Drop)]
+#[derive(Clone, Copy)]
 pub(crate) enum ColumnList {
     Lower,
     Upper,

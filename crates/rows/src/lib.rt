@@ -13,7 +13,7 @@ use base::{fill, put_if};
 use network::{Branch, Layout, branch_of};
 
 // Which of a row's two bounds.
-#[derive(Drop)]
+#[derive(Clone, Copy)]
 enum Side {
     Lower,
     Upper,
