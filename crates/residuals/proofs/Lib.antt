@@ -1,3 +1,3 @@
 pub mod Section
 pub mod Room
-pub mod Costs
+pub mod CostWalk

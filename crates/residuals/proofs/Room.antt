@@ -17,7 +17,7 @@ use Rattle.network.specs.declared.records.Generator.{Generator}
 use Rattle.network.specs.declared.records.Branch.{Branch}
 use Rattle.network.specs.Layout.{Laid}
 use Rattle.network.specs.internal.Records.{bus_record, GeneratorRead, BranchRead}
-use Rattle.network.proofs.Form.{branch_word}
+use Rattle.network.proofs.Forms.{branch_word}
 use Rattle.acopf.specs.Columns.{vm_lower, vm_upper}
 use Rattle.acopf.specs.Rows.{rated}
 use Rattle.derived.specs.internal.Agree.{PerBus, Ready}

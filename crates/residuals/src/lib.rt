@@ -1,5 +1,6 @@
 // The eight residuals of a point, and its own objective.
 #![tactic(auto)]
+
 mod cost;
 mod eight;
 mod single;
