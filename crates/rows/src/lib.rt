@@ -1,6 +1,7 @@
 // Two of compile's lists, row lower and row upper: 0 and 0 for balances and references, the branches' bounds for angle differences, and 0
 // and 1e19 for every later row, which is a margin.
 #![tactic(auto)]
+
 ghost use Rattle.std.specs.Prelude.{◌≡◌, ◌++◌, ◌+◌, ◌≤◌, length, drop};
 ghost use Rattle.base.specs.internal.Section.{Wrote};
 ghost use Rattle.network.specs.Layout.{Laid};
