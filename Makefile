@@ -27,7 +27,7 @@ LIBRARIES = $(ARCHIVES:%=target/staticlib/lib%.a)
 
 run: case
 	@tests/prove depot
-	@target/bin/depot < target/$(CASE).bin
+	@cd crates/depot && rt run < ../../target/$(CASE).bin 2> ../../target/log/run || { tail -n 20 ../../target/log/run >&2; exit 1; }
 
 model: case archives
 	@cargo run --quiet --offline --locked --release --manifest-path host/Cargo.toml --target-dir target/host --example model \
@@ -53,7 +53,7 @@ test:
 	@tests/gate $(TESTS)
 
 fmt:
-	@rt fmt
+	@tests/layout
 	@cargo fmt --manifest-path host/Cargo.toml
 	@cargo fmt --all --manifest-path tests/Cargo.toml
 

@@ -1,4 +1,4 @@
-//! Links the proved archives that `rt staticlib` wrote to ../target/staticlib, those that ../include/archives.txt lists.
+//! Links the proved archives that tests/boundary/archives wrote to ../target/staticlib, those that ../include/archives.txt lists.
 
 use std::path::PathBuf;
 
@@ -13,7 +13,7 @@ fn main() {
     for name in names.lines().filter(|line| !line.starts_with('#')) {
         let archive = archives.join(format!("lib{name}.a"));
         println!("cargo:rerun-if-changed={}", archive.display());
-        assert!(archive.exists(), "no {}: run `rt staticlib {name}` first", archive.display());
+        assert!(archive.exists(), "no {}: run tests/boundary/archives first", archive.display());
         println!("cargo:rustc-link-lib=static={name}");
     }
 }

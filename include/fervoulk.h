@@ -1,10 +1,11 @@
 /*
  * Fervoulk's C boundary: compile, check, the finder and row values, for a host in C, C++ or Rust.
  *
- * The functions stand in the archives that include/archives.txt lists, target/staticlib/libNAME.a for a NAME of the list (`rt staticlib
- * NAME`), for x86-64 Linux; each section below names its own. Link any of them, in any order; they need memcpy and memset of the C library
- * and nothing else. docs/FORMAT.md says what the files, the refusals, the check and row values are, and works an example; "document 01" is
- * the paper behind it. The contracts are proved for the functions named here, as they stand in crates/NAME/src.
+ * The functions stand in the archives that include/archives.txt lists, target/staticlib/libNAME.a for a NAME of the list
+ * (tests/boundary/archives writes them), for x86-64 Linux; each section below names its own. Link any of them, in any order; they need
+ * memcpy and memset of the C library and nothing else. docs/FORMAT.md says what the files, the refusals, the check and row values are, and
+ * works an example; "document 01" is the paper behind it. The contracts are proved for the functions named here, as they stand in
+ * crates/NAME_c/src.
  *
  * What the caller owes. Nothing proves a caller in C:
  *  - A list is a pointer and the number of its elements. The pointer is aligned for its type (4 bytes for words, 8 for doubles) and
