@@ -1,5 +1,6 @@
 // Total functions on f64 that everything above is built of. Each answers at every float, NaN too.
 #![tactic(auto)]
+
 ghost use Rattle.std.specs.Prelude.{◌≡◌, pos, from_bits, to_bits};
 ghost use Rattle.std.specs.Float.{binary64};
 ghost use Rattle.std.specs.Float.Ieee.{to_unsigned, of_int};
@@ -22,11 +23,7 @@ pub fn from_bits(n: u64) -> f64
 {
     let m = n % 0x8000_0000_0000_0000;
     let nan = m > 0x7ff0_0000_0000_0000;
-    if nan {
-        0.0 / 0.0
-    } else {
-        f64::from_bits(n)
-    }
+    if nan { 0.0 / 0.0 } else { f64::from_bits(n) }
 }
 
 // fdlibm's __HI, as an unsigned number.
@@ -71,11 +68,7 @@ pub fn absolute(x: f64) -> f64
     ensures { result ≡ absolute x }
 {
     let positive = to_bits(x) < 0x8000_0000_0000_0000;
-    if positive {
-        x
-    } else {
-        -x
-    }
+    if positive { x } else { -x }
 }
 
 // A NaN is ignored, and +0 is preferred to -0.
