@@ -79,7 +79,7 @@ fn argument_ok(kind: u32, a: f64) -> bool
 
 // An expression's value, whether 14 spares it, the place after its words and the number of the next constant. At place 0 nothing was
 // read: `next` is then the first wrong word, where the function that answers looks for one.
-#[derive(Drop)]
+#[derive(Clone, Copy)]
 pub struct Scanned {
     pub value: f64,
     pub in_range: bool,

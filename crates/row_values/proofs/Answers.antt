@@ -73,7 +73,7 @@ module _ (ws : List ℕ) (xs point : List Float) where
     values = shared_values point [] M.shared
 
     rows_place : at ≡ rows_at M
-    rows_place = R.rows-at ∙ ap (λ k. place_of k 0 M.shared) (sym R.shared_count)
+    rows_place = R.rows_at_is ∙ ap (λ k. place_of k 0 M.shared) (sym R.shared_count)
 
     objective_place : objective ≡ objective_at M
     objective_place = R.objective_at_is ∙ ap₂ (λ k p. place_of k p M.rows) (sym R.rows_count) rows_place
@@ -186,20 +186,20 @@ module _ (ws : List ℕ) (xs : List Float) (columns : ℕ) (point : List Float) 
 
     pub worked_settled : (f : File) (late : Fault) → s ≡ file.Worked f → late ≡ or_else (room_of f.shared f.rows lent_shared lent_rows) (or_else (point_fault point columns) f.fault)
         → Settled ws xs columns point lent_shared lent_rows array kept
-        (record { shared = f.shared; rows = f.rows; rows_at_is = f.rows_at_is; rows_next = f.rows_next; objective = f.objective; fault = late })
+        (record { shared = f.shared; rows = f.rows; rows_at = f.rows_at; rows_next = f.rows_next; objective = f.objective; fault = late })
     worked_settled f late q e =
         let F : FileRun ws xs point array before kept f = subst (FileScanned ws xs point array before kept) q S in
         let passed = ap (file_layout ws (length xs)) (sym l) ∙ F.reads in
-        let s = layout_sound ws (patterns xs) columns f.shared f.rows f.rows_at_is F.objective_at_is F.extra
+        let s = layout_sound ws (patterns xs) columns f.shared f.rows f.rows_at F.objective_at_is F.extra
         (ap (λ k. file_layout ws k columns) (as_many ws xs point columns) ∙ passed) in
         let faults =
-        F.faults ∙ ap (λ v. or_else (shared_pass ws xs point f.shared 0 []) (or_else (rows_pass ws xs point v f.rows f.rows_at_is) (part_fault ws xs point v F.objective_at_is)))
+        F.faults ∙ ap (λ v. or_else (shared_pass ws xs point f.shared 0 []) (or_else (rows_pass ws xs point v f.rows f.rows_at) (part_fault ws xs point v F.objective_at_is)))
         F.shared_are
-        ∙ faults_are ws xs point columns f.shared f.rows f.rows_at_is F.objective_at_is F.extra s in
-        let y = read_passed ws xs point columns f.shared f.rows f.rows_at_is F.objective_at_is F.extra passed in
+        ∙ faults_are ws xs point columns f.shared f.rows f.rows_at F.objective_at_is F.extra s in
+        let y = read_passed ws xs point columns f.shared f.rows f.rows_at F.objective_at_is F.extra passed in
         let w = F.rows_are in
         record {
-          refuses = e ∙ worked_refuses ws xs point columns lent_shared lent_rows f.shared f.rows f.rows_at_is F.objective_at_is F.extra passed F.fits f.fault faults;
+          refuses = e ∙ worked_refuses ws xs point columns lent_shared lent_rows f.shared f.rows f.rows_at F.objective_at_is F.extra passed F.fits f.fault faults;
           accepts = λ z.
               let room = has_room f.shared f.rows lent_shared lent_rows (or_left (room_of f.shared f.rows lent_shared lent_rows) (or_else (point_fault point columns) f.fault) (rw e at z)) in (
                 room.0,
@@ -217,13 +217,13 @@ module _ (ws : List ℕ) (xs : List Float) (columns : ℕ) (point : List Float) 
 
 -- the second time as many rows are read as the first time
 pub rows_again : (ws : List ℕ) (xs point values : List Float) (f : File) (kept before after : List Float) (s : Scan)
-    → Writable ws xs point values f kept (length before) → RowsScanned ws xs point values f.rows_at_is f.rows_next before after s
+    → Writable ws xs point values f kept (length before) → RowsScanned ws xs point values f.rows_at f.rows_next before after s
     → after ≡ rows_of ws xs point values f ++ drop f.rows before
 rows_again ws xs point values f kept before after (scanned.Stop r) w p =
     let e : Stop r.count r.at r.next p.start p.end ≡ Stop f.rows w.at w.next w.start w.end = sym p.reads ∙ w.reads in
     let z : r.count ≡ f.rows = cc in
     let h : r.count ≤ length before = omega (arith, w.fits) in
-    p.are h ∙ ap (λ n. values_of point values (terms_at ws xs point n f.rows_at_is) ++ drop n before) z
+    p.are h ∙ ap (λ n. values_of point values (terms_at ws xs point n f.rows_at) ++ drop n before) z
 rows_again ws xs point values f kept before after (scanned.Bad q) w p =
     let e : Bad q ≡ Stop f.rows w.at w.next w.start w.end = sym p ∙ w.reads in
     let z : ◌≡◌ {A = ℕ} 0 1 = cc in
@@ -276,5 +276,5 @@ module _ (ws : List ℕ) (xs : List Float) (columns : ℕ) (point shared rows : 
         let z : F ≡ clear = refusal_proper columns point (length shared) (length rows) read (ap (λ x. x.number) (sym s.refuses) ∙ c) in
         let m : f.shared ≡ length (all_shared point read) = sym (length-take-le f.shared array (omega (arith, a.fits))) ∙ ap length a.shared_are in
         let n : f.rows ≡ length (all_rows point read) =
-        sym (length_values point _ (terms_at ws xs point f.rows f.rows_at_is) ∙ count_many (part ws (patterns xs)) f.rows f.rows_at_is) ∙ ap length a.rows_are in
+        sym (length_values point _ (terms_at ws xs point f.rows f.rows_at) ∙ count_many (part ws (patterns xs)) f.rows f.rows_at) ∙ ap length a.rows_are in
         (rw (z, a.is, m, n), p ∙ rw (z, ← m, a.shared_are), q ∙ rw (z, ← n, a.rows_are))

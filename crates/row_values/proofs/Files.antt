@@ -85,13 +85,13 @@ module _ (ws : List ℕ) (xs point : List Float) where
 
       pub worked : (v : Float) (f g : Fault) → x ≡ end.Whole v f → g ≡ or_else run.fault (or_else r.fault f)
           → AfterRun ws xs point values run before after
-          (record { shared = run.count; rows = r.count; rows_at_is = run.at; rows_next = run.next; objective = v; fault = g })
+          (record { shared = run.count; rows = r.count; rows_at = run.at; rows_next = run.next; objective = v; fault = g })
       worked v f g w h = record {
         rows = r;
         its_rows = its_rows;
         faults = f;
         its_end = rw w at E;
-        is = ap (λ q. record { shared = run.count; rows = r.count; rows_at_is = run.at; rows_next = run.next; objective = v; fault = q }) h;
+        is = ap (λ q. record { shared = run.count; rows = r.count; rows_at = run.at; rows_next = run.next; objective = v; fault = q }) h;
       }
 
   -- ---- the file

@@ -110,7 +110,7 @@ module _ (ws : List ℕ) (xs point : List Float) where
       pub is : f ≡ record {
         shared = run.count;
         rows = rows.count;
-        rows_at_is = run.at;
+        rows_at = run.at;
         rows_next = run.next;
         objective = f.objective;
         fault = or_else run.fault (or_else rows.fault faults);
@@ -124,7 +124,7 @@ module _ (ws : List ℕ) (xs point : List Float) where
 
     -- the rows' values, and what is known where they are to be written to a list of that length
     abbrev pub rows_of : File → List Float
-    rows_of f = values_of point values (terms_at f.rows f.rows_at_is)
+    rows_of f = values_of point values (terms_at f.rows f.rows_at)
 
     pub record Writable (f : File) (kept : List Float) (room : ℕ) : Type 0 where
       pub fits : f.rows ≤ room
@@ -133,20 +133,20 @@ module _ (ws : List ℕ) (xs point : List Float) where
       pub next : ℕ
       pub start : ℕ
       pub end : ℕ
-      pub reads : read_rows f.rows_at_is f.rows_next ≡ Stop f.rows at next start end
+      pub reads : read_rows f.rows_at f.rows_next ≡ Stop f.rows at next start end
 
   -- a file that passes reading: its layout, its values, and the first fault of a value
   pub record FileRun (array before after : List Float) (f : File) : Type 0 where
     pub objective_at_is : ℕ
     pub extra : ℕ
-    pub reads : file_layout ws (length xs) (length point) ≡ Passed f.shared f.rows f.rows_at_is objective_at_is extra
+    pub reads : file_layout ws (length xs) (length point) ≡ Passed f.shared f.rows f.rows_at objective_at_is extra
     pub fits : f.shared ≤ shared_limit
     pub shared_are : take f.shared array ≡ shared_values point [] (terms_at f.shared 0)
     pub rows_are : Writable (take f.shared array) f after f.rows
     pub same_length : length after ≡ length before
     pub is : f.objective ≡ part_value (take f.shared array) objective_at_is
     pub faults : f.fault ≡ or_else (shared_pass f.shared 0 [])
-        (or_else (rows_pass (take f.shared array) f.rows f.rows_at_is) (part_fault (take f.shared array) objective_at_is))
+        (or_else (rows_pass (take f.shared array) f.rows f.rows_at) (part_fault (take f.shared array) objective_at_is))
 
   abbrev pub FileScanned : List Float → List Float → List Float → FileScan → Type 0
   FileScanned array before after (file.Worked f) = FileRun array before after f
