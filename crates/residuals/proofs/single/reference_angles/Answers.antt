@@ -11,7 +11,7 @@ loop-r-init c = (omega arith, with_none _ _)
 pub reference_of-bus-requires : goal.reference_of-bus-requires
 reference_of-bus-requires c =
     let pre = c.requires in
-    (pre.0, c.loop-r-test.true)
+    (pre.0, omega arith)
 
 pub offset_bounds-point-bus : goal.offset_bounds-point-bus
 offset_bounds-point-bus c =
