@@ -21,11 +21,12 @@ fn objective_head(terms: usize, file: &mut [u32], constants: &mut [f64], writer:
         file.new constants.new result }
 {
     if terms == 0 {
+        let constant = writer.constant;
         return put(
             file,
             constants,
             writer,
-            &[OBJECTIVE, model_word(CONSTANT, writer.constant)],
+            &[OBJECTIVE, model_word(CONSTANT, constant)],
             &[0.0],
             0,
         );
