@@ -7,6 +7,9 @@ use lib.Dec.{eqb}
 use lib.ListN.{get_or}
 use native.Mathlib.Omega.{arith}
 use native.Mathlib.Numerals.{add-one}
+use borrow.Author.Tests.{le-leb, lt-leb}
+use Rattle.base.specs.Fault.{fault, unless, or_else}
+use Rattle.network.specs.Fault.{fault_size}
 use Rattle.base.specs.Loop.{loop, tally}
 use Rattle.base.specs.Word.{kind_of}
 use Rattle.network.specs.Word.{generator_points}
@@ -16,6 +19,13 @@ use Rattle.network.proofs.Numbers.{generator_next, generator_fits}
 pub kind_next : (ws : List ℕ) (kind i : ℕ) → kind_before ws kind (suc i) ≡ cond (eqb (kind_of (get_or ws i 0)) kind) (suc (kind_before ws kind i)) (kind_before ws kind i)
 unfolding kind_before tally loop
 kind_next ws kind i = refl
+
+-- ---- limits
+
+-- more buses than 256 are refused, whatever follows
+pub many_buses : (ws : List ℕ) (n : ℕ) → n ≡ buses ws → 1 ≤ n → 256 < n → fault 2 257 ≡ fault_size ws
+unfolding fault_size unless or_else
+many_buses ws n e some many = rw (← e, le-leb 1 n some, lt-leb n 256 many)
 
 -- ---- counts
 

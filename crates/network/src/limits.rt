@@ -34,6 +34,7 @@ fn points_fault(words: &[u32], n: usize, k: usize) -> Fault
 }
 
 // n, k, m and r are the counts of buses, generators, branches and references.
+#[tactic(auto, using(crate::proofs::Steps::many_buses))]
 pub(crate) fn size_fault(words: &[u32], n: usize, k: usize, m: usize, r: usize) -> Fault
     requires { (n ≡ buses words.now) × (k ≡ generators words.now) × (m ≡ branches words.now)
         × (r ≡ references words.now) × ((fault_words words.now).number ≡ 0) }

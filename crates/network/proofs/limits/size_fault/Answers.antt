@@ -9,27 +9,23 @@ pub returns-then-n-lt1 : goal.returns-then-n-lt1
 unfolding fault_size unless or_else
 returns-then-n-lt1 c = rw (← c.requires.0, ← c.requires.1, ← c.requires.2, ← c.requires.3, lt-leb 1 _ c.if-n-lt1.true)
 
-pub returns-then-n-gt-MOST_BUSES : goal.returns-then-n-gt-MOST_BUSES
-unfolding fault_size unless or_else
-returns-then-n-gt-MOST_BUSES c = rw (← c.requires.0, ← c.requires.1, ← c.requires.2, ← c.requires.3, le-leb 1 _ c.if-n-lt1.false, lt-leb _ 256 c.if-n-gt-MOST_BUSES.true)
-
 pub returns-then-k-gt-MOST_GENERATORS : goal.returns-then-k-gt-MOST_GENERATORS
 unfolding fault_size unless or_else
 returns-then-k-gt-MOST_GENERATORS c =
     let pre = c.requires in
-    rw (← pre.0, ← pre.1, ← pre.2, ← pre.3, le-leb 1 _ c.if-n-lt1.false, le-leb _ 256 c.if-n-gt-MOST_BUSES.false, lt-leb _ 256 c.if-k-gt-MOST_GENERATORS.true)
+    rw (← pre.0, ← pre.1, ← pre.2, ← pre.3, le-leb 1 _ c.if-n-lt1.false, le-leb c.args.n 256 (omega arith), lt-leb _ 256 c.if-k-gt-MOST_GENERATORS.true)
 
 pub returns-then-m-gt-MOST_BRANCHES : goal.returns-then-m-gt-MOST_BRANCHES
 unfolding fault_size unless or_else
 returns-then-m-gt-MOST_BRANCHES c =
     let pre = c.requires in
-    rw (← pre.0, ← pre.1, ← pre.2, ← pre.3, le-leb 1 _ c.if-n-lt1.false, le-leb _ 256 c.if-n-gt-MOST_BUSES.false, le-leb _ 256 c.if-k-gt-MOST_GENERATORS.false, lt-leb _ 512 c.if-m-gt-MOST_BRANCHES.true)
+    rw (← pre.0, ← pre.1, ← pre.2, ← pre.3, le-leb 1 _ c.if-n-lt1.false, le-leb c.args.n 256 (omega arith), le-leb _ 256 c.if-k-gt-MOST_GENERATORS.false, lt-leb _ 512 c.if-m-gt-MOST_BRANCHES.true)
 
 pub returns-then-r-gt-MOST_REFERENCES : goal.returns-then-r-gt-MOST_REFERENCES
 unfolding fault_size unless or_else
 returns-then-r-gt-MOST_REFERENCES c =
     let pre = c.requires in
-    rw (← pre.0, ← pre.1, ← pre.2, ← pre.3, le-leb 1 _ c.if-n-lt1.false, le-leb _ 256 c.if-n-gt-MOST_BUSES.false, le-leb _ 256 c.if-k-gt-MOST_GENERATORS.false, le-leb _ 512 c.if-m-gt-MOST_BRANCHES.false, lt-leb _ 256 c.if-r-gt-MOST_REFERENCES.true)
+    rw (← pre.0, ← pre.1, ← pre.2, ← pre.3, le-leb 1 _ c.if-n-lt1.false, le-leb c.args.n 256 (omega arith), le-leb _ 256 c.if-k-gt-MOST_GENERATORS.false, le-leb _ 512 c.if-m-gt-MOST_BRANCHES.false, lt-leb _ 256 c.if-r-gt-MOST_REFERENCES.true)
 
 pub points_fault-requires : goal.points_fault-requires
 points_fault-requires c = (c.requires.0, omega (arith, words_length _ c.requires.4, c.requires.0, c.requires.1))
@@ -39,6 +35,5 @@ unfolding fault_size unless or_else
 returns c =
     let its-pre = c.requires in
     let if1 = c.if-n-lt1 in
-    let if2 = c.if-n-gt-MOST_BUSES in
     let pre = its-pre in
-    rw (← pre.0, ← pre.1, ← pre.2, ← pre.3, le-leb 1 _ if1.false, le-leb _ 256 if2.false, le-leb _ 256 c.if-k-gt-MOST_GENERATORS.false, le-leb _ 512 c.if-m-gt-MOST_BRANCHES.false, le-leb _ 256 c.if-r-gt-MOST_REFERENCES.false) (rw (← pre.0) at c.points_fault.ensures)
+    rw (← pre.0, ← pre.1, ← pre.2, ← pre.3, le-leb 1 _ if1.false, le-leb c.args.n 256 (omega arith), le-leb _ 256 c.if-k-gt-MOST_GENERATORS.false, le-leb _ 512 c.if-m-gt-MOST_BRANCHES.false, le-leb _ 256 c.if-r-gt-MOST_REFERENCES.false) (rw (← pre.0) at c.points_fault.ensures)
