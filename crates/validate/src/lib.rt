@@ -1,5 +1,6 @@
 // validate_primal: whether a solver's point is accepted.
 #![tactic(auto)]
+
 mod boundary;
 mod measure;
 mod point;
