@@ -172,6 +172,7 @@ fn counts_right(data: &[u8], at: usize, shared: usize, rows: usize, some: bool) 
 }
 
 fn answer_right(data: &[u8], at: usize, answer: RowValues) -> bool {
+    let some = answer.fault.number == 0;
     if !fault_right(data, at, answer.fault) {
         return false;
     }
@@ -180,13 +181,7 @@ fn answer_right(data: &[u8], at: usize, answer: RowValues) -> bool {
             return false;
         }
     }
-    counts_right(
-        data,
-        at,
-        answer.shared,
-        answer.rows,
-        answer.fault.number == 0,
-    )
+    counts_right(data, at, answer.shared, answer.rows, some)
 }
 
 // Row values into two lists of which a front part is lent.
