@@ -54,7 +54,8 @@ fn verdict(
     }
     let residuals = measured.residuals;
     let above = residual_fault(residuals, tolerances);
-    if above.number != 0 {
+    let refuses = above.number != 0;
+    if refuses {
         return Checked {
             fault: above,
             objective: 0.0,

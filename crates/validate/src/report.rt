@@ -49,7 +49,8 @@ fn settle(
     let mut scratch = [0.0; MOST_OUTPUTS];
     let measured = measure(words, numbers, point, layout, solver, &mut scratch);
     let derived = measured.fault;
-    if derived.number != 0 {
+    let refuses = derived.number != 0;
+    if refuses {
         return derived;
     }
     let r = measured.residuals;

@@ -8,7 +8,8 @@ use base::{Fault, refusal};
 pub(crate) fn tolerance_fault(tolerances: &[f64]) -> Fault
     ensures { result ≡ fault_tolerance tolerances.now }
 {
-    if tolerances.len() != 8 {
+    let miscounted = tolerances.len() != 8;
+    if miscounted {
         return Fault {
             number: refusal::TOLERANCE,
             place: 0,

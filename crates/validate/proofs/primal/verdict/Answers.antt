@@ -16,13 +16,13 @@ returns-then-derived-ne0 c =
 pub residual_fault-above-requires : goal.residual_fault-above-requires
 residual_fault-above-requires c = cleared_eight _ _ _ _ _ _ c.requires.0.cleared
 
-pub returns-then-above-ne0 : goal.returns-then-above-ne0
-returns-then-above-ne0 c =
+pub returns-then-refuses : goal.returns-then-refuses
+returns-then-refuses c =
     let pre = c.requires in
     let args = c.args in
     let measured = c.measure-measured.ensures in
     let above = c.residual_fault-above in
-    says_16 pre.0.ready.laid measured args.tolerances.now args.outputs.now pre.0.cleared c.if-derived-ne0.false above.result above.ensures c.if-above-ne0.true
+    says_16 pre.0.ready.laid measured args.tolerances.now args.outputs.now pre.0.cleared c.if-derived-ne0.false above.result above.ensures c.if-refuses.true
 
 pub overflow_mul-layout : goal.overflow_mul-layout
 overflow_mul-layout c =
@@ -52,4 +52,4 @@ returns c =
     let measured = c.measure-measured.ensures in
     let above = c.residual_fault-above in
     let finite = c.if-derived-ne0.false in
-    says_0 pre.0.ready.laid measured args.tolerances.now args.outputs.now pre.0.cleared finite above.result above.ensures _ c.if-above-ne0.false c.copy_front.ensures
+    says_0 pre.0.ready.laid measured args.tolerances.now args.outputs.now pre.0.cleared finite above.result above.ensures _ c.if-refuses.false c.copy_front.ensures

@@ -7,8 +7,8 @@ measure-measured-requires c =
     let L = c.requires.0.laid.words in
     (c.requires.0, omega (arith, L.few_buses, L.few_branches))
 
-pub returns-then-derived-ne0 : goal.returns-then-derived-ne0
-returns-then-derived-ne0 c = report_15 c.measure-measured.ensures c.args.report.now c.requires.2 c.if-derived-ne0.true
+pub returns-then-refuses : goal.returns-then-refuses
+returns-then-refuses c = report_15 c.measure-measured.ensures c.args.report.now c.requires.2 c.if-refuses.true
 
 pub copy_front-requires : goal.copy_front-requires
 copy_front-requires c = (omega arith, c.requires.1)
@@ -17,4 +17,4 @@ pub returns : goal.returns
 returns c =
     let pre = c.requires in
     let before = c.args.report.now in
-    report_0 c.measure-measured.ensures before pre.2 _ c.if-derived-ne0.false c.copy_front.ensures
+    report_0 c.measure-measured.ensures before pre.2 _ c.if-refuses.false c.copy_front.ensures
