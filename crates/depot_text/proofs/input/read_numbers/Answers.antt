@@ -1,0 +1,48 @@
+use mathlib.Core.Path.{◌≡◌, refl}
+use Prim.Native.Nat.{◌-◌, ◌+◌, ◌*◌}
+use native.Mathlib.Omega.{arith}
+use lib.ListN.{length-set}
+use Rattle.base.proofs.Loops.{length_table}
+use Rattle.depot_text.specs.Input.{number_count, input_numbers}
+use Rattle.little_endian.specs.Bytes.{number_at}
+use Rattle.depot_text.proofs.Writes.{table_none, table_step, wrote_take}
+use Rattle.depot_text.proofs.Inputs.{formed_is}
+use Rattle.depot_text.proofs.input.read_numbers.Goals as goal
+
+pub count_at-requires : goal.count_at-requires
+count_at-requires c = omega (arith, (formed_is c.args.bytes.now c.requires.0).below)
+
+pub count_at-count-requires : goal.count_at-count-requires
+count_at-count-requires c = omega (arith, (formed_is c.args.bytes.now c.requires.0).below)
+
+pub loop-i-init : goal.loop-i-init
+loop-i-init c =
+    let pre = c.requires in
+    let words = c.count_at.ensures.0 in
+    let count = c.count_at-count.ensures.0 in
+    let g = formed_is c.args.bytes.now pre.0 in (
+      omega arith,
+      count,
+      omega (arith, words),
+      omega (arith, g.needed, words, count),
+      omega (arith, g.needed, g.above, count, pre.1),
+      refl,
+      table_none _ _,
+    )
+
+pub loop-i-preserved : goal.loop-i-preserved
+loop-i-preserved c =
+    let inv = c.loop-i.invariant in
+    (omega arith, inv.1, inv.2, inv.3, inv.4, simp length-set (omega arith), table_step _ _ c.number_at.ensures inv.6)
+
+pub returns : goal.returns
+unfolding input_numbers
+returns c =
+    let bytes = c.args.bytes.now in
+    let words = c.count_at.result in
+    let i = c.loop-i.i in
+    let inv = c.loop-i.invariant in
+    let e : i ≡ number_count bytes = omega (arith, inv.1) in
+    let q : c.count_at-count.result ≡ i = omega arith in
+    let count = length_table i (λ j. number_at bytes (8 + 4 * words + 8 * j)) in
+    (rw (q, ← e, ← inv.2) (wrote_take inv.6 (omega (arith, count, inv.4))), omega (arith, inv))

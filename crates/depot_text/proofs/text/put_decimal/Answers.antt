@@ -1,0 +1,26 @@
+use mathlib.Core.Path.{◌∙◌}
+use native.Mathlib.Omega.{arith}
+use Rattle.depot_text.specs.Text.{decimal}
+use Rattle.depot_text.proofs.Decimals.{few_digits, digits_decimal}
+use Rattle.depot_text.proofs.text.put_decimal.Goals as goal
+
+pub put-requires : goal.put-requires
+put-requires c =
+    let n = c.args.n in
+    let good = c.well_formed in
+    let fits = c.ranges in
+    let decimal = c.decimal-count in
+    let few = few_digits n decimal.result (omega (arith, good, fits)) decimal.ensures.1.0 in
+    omega (arith, few, c.requires, decimal.ensures.0.1)
+
+pub returns : goal.returns
+returns c =
+    let n = c.args.n in
+    let good = c.well_formed in
+    let fits = c.ranges in
+    let decimal = c.decimal-count in
+    let value = decimal.ensures.1.0 in
+    let few = few_digits n decimal.result (omega (arith, good, fits)) value in
+    let e = decimal.ensures.1.1 ∙ digits_decimal decimal.result n few value in
+    let put = c.put in
+    (rw e at put.ensures, omega (arith, few, put.ensures.follows, decimal.ensures.0.1))
