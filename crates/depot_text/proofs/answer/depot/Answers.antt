@@ -15,12 +15,12 @@ returns-then-text-n c =
     answered_short args.input.now args.text.now (omega (arith, end, c.if-text-n.true))
 
 pub slice_bounds-put-end : goal.slice_bounds-put-end
-slice_bounds-put-end c = sym (length-take-le _ _ (omega (arith, c.put_output-n.auto.1.0, c.put_output-n.ensures.1)))
+slice_bounds-put-end c = sym (length-take-le _ _ (omega (arith, c.put_output-n.auto.text, c.put_output-n.ensures.1)))
 
 pub put-requires : goal.put-requires
 put-requires c =
     let written = c.put_output-n in
-    let e = length-take-le written.result written.new.1.0 (omega (arith, written.auto.1.0, written.ensures.1)) in
+    let e = length-take-le written.result written.new.text (omega (arith, written.auto.text, written.ensures.1)) in
     omega (arith, e, c.if-text-n.false)
 
 pub returns : goal.returns

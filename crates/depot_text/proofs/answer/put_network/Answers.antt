@@ -7,7 +7,7 @@ put_hex_lines-requires c =
     let args = c.args in
     let answer = c.compile_words-answer in
     let few = few_words args.words.now args.numbers.now answer.result answer.ensures.0 c.if-answer-eq0.true in
-    (omega (arith, few, answer.auto.1.1.0), omega (arith, few, c.requires))
+    (omega (arith, few, answer.auto.model_words), omega (arith, few, c.requires))
 
 pub returns-then-answer-eq0 : goal.returns-then-answer-eq0
 returns-then-answer-eq0 c =
@@ -26,5 +26,5 @@ returns c =
     let xs = c.args.numbers.now in
     let answer = c.compile_words-answer in
     let refused = network_refused ws xs answer.result answer.ensures.0 c.if-answer-eq0.false in
-    let put = c.Put_refused.ensures in
+    let put = c.put_refused.ensures in
     (rw refused at put.0, omega (arith, put.1))

@@ -2,7 +2,6 @@ use mathlib.Core.Bool.{true}
 use mathlib.Core.Path.{◌≡◌, sym, ◌∙◌}
 use native.Mathlib.Omega.{arith}
 use lib.Seq.{length-take-le}
-use borrow.Author.Tests.{not-true, not-false}
 use Rattle.depot_text.specs.Input.{formed}
 use Rattle.depot_text.proofs.Texts.{output_none, output_some}
 use Rattle.depot_text.proofs.answer.put_output.Goals as goal
@@ -11,18 +10,18 @@ pub returns-then-not-formed : goal.returns-then-not-formed
 returns-then-not-formed c =
     let formed = c.formed in
     let put = c.put.ensures in
-    let none = output_none c.args.input.now formed.result formed.ensures (not-true _ c.if-not-formed.true) in
+    let none = output_none c.args.input.now formed.result formed.ensures c.if-not-formed.true in
     (rw none at put, omega (arith, put.follows))
 
 pub read_words-w-requires : goal.read_words-w-requires
 read_words-w-requires c =
-    let f : formed c.args.input.now ≡ true = sym c.formed.ensures ∙ not-false _ c.if-not-formed.false in
+    let f : formed c.args.input.now ≡ true = sym c.formed.ensures ∙ c.if-not-formed.false in
     (f, omega arith)
 
 pub read_numbers-n-requires : goal.read_numbers-n-requires
 read_numbers-n-requires c =
     let input = c.args.input.now in
-    let f : formed input ≡ true = sym c.formed.ensures ∙ not-false _ c.if-not-formed.false in
+    let f : formed input ≡ true = sym c.formed.ensures ∙ c.if-not-formed.false in
     (f, omega arith)
 
 pub slice_bounds-words-end : goal.slice_bounds-words-end
@@ -41,7 +40,7 @@ pub returns : goal.returns
 returns c =
     let input = c.args.input.now in
     let formed = c.formed in
-    let right = not-false _ c.if-not-formed.false in
+    let right = c.if-not-formed.false in
     let words = c.read_words-w.ensures.0 in
     let numbers = c.read_numbers-n.ensures.0 in
     let put = c.put_network.ensures in

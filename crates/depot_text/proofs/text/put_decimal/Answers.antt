@@ -1,6 +1,5 @@
 use mathlib.Core.Path.{◌∙◌}
 use native.Mathlib.Omega.{arith}
-use Rattle.depot_text.specs.Text.{decimal}
 use Rattle.depot_text.proofs.Decimals.{few_digits, digits_decimal}
 use Rattle.depot_text.proofs.text.put_decimal.Goals as goal
 
@@ -10,8 +9,8 @@ put-requires c =
     let good = c.well_formed in
     let fits = c.ranges in
     let decimal = c.decimal-count in
-    let few = few_digits n decimal.result (omega (arith, good, fits)) decimal.ensures.1.0 in
-    omega (arith, few, c.requires, decimal.ensures.0.1)
+    let few = few_digits n decimal.result (omega (arith, good, fits)) decimal.ensures.len in
+    omega (arith, few, c.requires, decimal.ensures.in_bounds.1)
 
 pub returns : goal.returns
 returns c =
@@ -19,8 +18,8 @@ returns c =
     let good = c.well_formed in
     let fits = c.ranges in
     let decimal = c.decimal-count in
-    let value = decimal.ensures.1.0 in
+    let value = decimal.ensures.len in
     let few = few_digits n decimal.result (omega (arith, good, fits)) value in
-    let e = decimal.ensures.1.1 ∙ digits_decimal decimal.result n few value in
+    let e = decimal.ensures.digits ∙ digits_decimal decimal.result n few value in
     let put = c.put in
-    (rw e at put.ensures, omega (arith, few, put.ensures.follows, decimal.ensures.0.1))
+    (rw e at put.ensures, omega (arith, few, put.ensures.follows, decimal.ensures.in_bounds.1))

@@ -1,5 +1,4 @@
 use mathlib.Core.Path.{◌≡◌, refl, ap, sym, ◌∙◌}
-use Prim.Native.Nat.{◌-◌}
 use native.Mathlib.Omega.{arith}
 use lib.ListN.{length, get_or}
 use Rattle.depot_text.proofs.Writes.{each_none, each_step}
@@ -36,7 +35,7 @@ loop-i-preserved c =
       omega (arith, e, put.ensures.follows, inv.1),
       inv.2,
       inv.3,
-      omega (arith, put.auto.0, inv.4),
+      omega (arith, put.auto.text, inv.4),
       each_step _ loop.i _ line.ensures inv.5 put.ensures,
     )
 
