@@ -92,7 +92,8 @@ fn of_endless(a: f64, b: f64) -> f64
 {
     let n = float::to_bits(b);
     let m = float::to_bits(a) % 0x10_0000_0000_0000;
-    if n == 0x7ff0_0000_0000_0000 {
+    let infinite = n == 0x7ff0_0000_0000_0000;
+    if infinite {
         b
     } else if m == 0 {
         a
