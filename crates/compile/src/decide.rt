@@ -184,7 +184,8 @@ pub(crate) fn decided(words: &[u32], numbers: &[f64], lent: [usize; 7]) -> Decis
                 ],
                 lent,
             );
-            if short.number != 0 {
+            let too_short = short.number != 0;
+            if too_short {
                 return Decision::Refused(refused(short));
             }
             Decision::Accepted(answer, layout, tallies)

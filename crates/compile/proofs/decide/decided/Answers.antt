@@ -9,12 +9,12 @@ accepted-answer-requires c =
     let j = c.in-Sound.ensures in
     (j.1, j.2, tables_clear ws xs j.0)
 
-pub returns-then-short-ne0 : goal.returns-then-short-ne0
-returns-then-short-ne0 c =
+pub returns-then-too_short : goal.returns-then-too_short
+returns-then-too_short c =
     let ws = c.args.words.now in
     let xs = c.args.numbers.now in
     let j = c.in-Sound.ensures in
-    decided_short ws xs j.0 _ c.accepted-answer.ensures c.short_fault-short.ensures c.if-short-ne0.true c.refused-then-short-ne0.ensures
+    decided_short ws xs j.0 _ c.accepted-answer.ensures c.short_fault-short.ensures c.if-too_short.true c.refused-then-too_short.ensures
 
 pub returns-in-Refused : goal.returns-in-Refused
 returns-in-Refused c =
@@ -23,10 +23,10 @@ returns-in-Refused c =
     let j = c.in-Refused.ensures in
     decided_refused ws xs _ c.refused.ensures j.0 j.1
 
-pub returns-else-short-ne0 : goal.returns-else-short-ne0
-returns-else-short-ne0 c =
+pub returns-else-too_short : goal.returns-else-too_short
+returns-else-too_short c =
     let ws = c.args.words.now in
     let xs = c.args.numbers.now in
     let j = c.in-Sound.ensures in
-    let d = decided_accepted ws xs j.0 _ c.accepted-answer.ensures c.short_fault-short.ensures c.if-short-ne0.false in
+    let d = decided_accepted ws xs j.0 _ c.accepted-answer.ensures c.short_fault-short.ensures c.if-too_short.false in
     (d.0, d.1, j.1, j.2)
