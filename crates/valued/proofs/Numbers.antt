@@ -67,13 +67,13 @@ module _ (P : ℕ → Type 0) (none-refused : P 0) where
     shared_has at values none h = none-refused
     shared_has at values (more e ts) h =
         or_has (value_fault point values at e) (shared_fault point (at + 1 + size e) (values ++ (value point values e ∷ [])) ts)
-        (value_has values at e (⊎_elim (λ s. inl s.0) inr h)) (shared_has _ _ ts (⊎_elim (λ s. inl s.1) inr h))
+        (value_has values at e (⊎_elim (λ s. inl s.0) inr h)) (shared_has (at + 1 + size e) _ ts (⊎_elim (λ s. inl s.1) inr h))
 
     rows_has : (at : ℕ) (values : List Float) (ts : Terms) → RowsSpared point values ts ⊎ P SWING → P (rows_fault point at values ts).number
     rows_has at values none h = none-refused
     rows_has at values (more e ts) h =
         or_has (value_fault point values at e) (rows_fault point (at + 1 + size e) values ts)
-        (value_has values at e (⊎_elim (λ s. inl s.0) inr h)) (rows_has _ values ts (⊎_elim (λ s. inl s.1) inr h))
+        (value_has values at e (⊎_elim (λ s. inl s.0) inr h)) (rows_has (at + 1 + size e) values ts (⊎_elim (λ s. inl s.1) inr h))
 
     pub values_has : (M : Model) → Spared point M ⊎ P SWING → P (values_fault point M).number
     unfolding values_fault
