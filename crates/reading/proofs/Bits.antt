@@ -1,7 +1,7 @@
 -- The constants as lent, f64 numbers, have the bit patterns of the model's constants: nothing is lost on the way.
 use mathlib.Core.Path.{◌≡◌, refl, ap₂}
 use mathlib.Core.List.{List, [], ◌∷◌, map}
-use mathlib.Core.Bool.{true, false, not, false≢true}
+use mathlib.Core.Bool.{true, not, false≢true}
 use Prim.Native.Nat.{ℕ, suc, ◌+◌, ◌^◌, ◌<◌}
 use native.Mathlib.Omega.{arith}
 use lib.Dec.{T}
