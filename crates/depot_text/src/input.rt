@@ -23,7 +23,8 @@ pub(crate) fn formed(bytes: &[u8]) -> bool
     if bytes.len() < 8 {
         return false;
     }
-    if bytes.len() > LARGEST {
+    let too_long = bytes.len() > LARGEST;
+    if too_long {
         return false;
     }
     bytes.len() == 8 + 4 * count_at(bytes, 0) + 8 * count_at(bytes, 4)
