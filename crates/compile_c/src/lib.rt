@@ -1,5 +1,5 @@
-// The functions of crate compile for C, which a static library alone exports: each calls compile's function of its name and states its clauses
-// again.
+// The functions of crate compile for C, which a static library alone exports: each calls compile's function of its name and states its
+// clauses again.
 #![tactic(auto)]
 
 ghost use Rattle.std.specs.Prelude.{◌≡◌};
