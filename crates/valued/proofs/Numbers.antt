@@ -53,13 +53,13 @@ module _ (P : ℕ → Type 0) (none-refused : P 0) where
       (unless_has _ POINT columns h) (first_has (length point) _ (λ j. unless_has _ POINT j h))
 
   -- 14 has it, unless it spares what is worked out
-  module _ (point : List Float) (not-Finite : P VALUE) where
+  module _ (point : List Float) (not_finite : P VALUE) where
     value_has : (values : List Float) (at : ℕ) (e : Expr) → (in_range point values e ≡ true) ⊎ P SWING → P (value_fault point values at e).number
     unfolding value_fault
     value_has values at e h = go (in_range point values e) h
       where
         go : (b : Bool) → (b ≡ true) ⊎ P SWING → P (cond b (unless (is_finite (value point values e)) (fault VALUE at)) (fault SWING at)).number
-        go true h = unless_has _ VALUE at not-Finite
+        go true h = unless_has _ VALUE at not_finite
         go false (inl q) = absurd (false≢true q)
         go false (inr s) = s
 
