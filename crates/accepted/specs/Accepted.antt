@@ -1,5 +1,5 @@
--- What an accepted point is, piece by piece: the check says 0 exactly where Sound and Kept hold (accepted-exactly-kept, proofs/Kept.antt).
--- Accepted says the same with "not above" in place of "at most" (accepted-exactly, proofs/Accepts.antt).
+-- What an accepted point is, piece by piece: the check says 0 exactly where Sound and Kept hold (accepted_exactly_kept, proofs/Kept.antt).
+-- Accepted says the same with "not above" in place of "at most" (accepted_exactly, proofs/Accepts.antt).
 use Rattle.std.specs.Prelude.{ℕ, ◌+◌, ◌*◌, ◌≤◌, ◌<◌, ◌≡◌, true, false, List, length, get_or, Float}
 use Rattle.std.specs.Float.{nan}
 use Rattle.std.specs.Float.Ieee.{lt, le}

@@ -40,7 +40,7 @@ pub fn row_segments(curved: bool, points: usize) -> usize
 }
 
 // The epigraph columns and the segments with rows.
-#[derive(Drop)]
+#[derive(Clone, Copy)]
 struct Curves {
     epigraphs: usize,
     segments: usize,
@@ -67,7 +67,7 @@ fn curve_tallies(words: &[u32], numbers: &[f64], layout: Layout) -> Curves
 }
 
 // The active angle bounds and the active limits above 0.
-#[derive(Drop)]
+#[derive(Clone, Copy)]
 struct Limits {
     angles: usize,
     rated: usize,

@@ -16,7 +16,7 @@ use writer::word::{COLUMN, CONSTANT, MULTIPLY, ROW, SHARED, SUM};
 use writer::{Writer, model_word, put};
 
 // So many items of a list, from a place on.
-#[derive(Drop)]
+#[derive(Clone, Copy)]
 pub struct Span {
     pub from: usize,
     pub size: usize,

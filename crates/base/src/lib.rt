@@ -11,7 +11,7 @@ ghost use Rattle.base.specs.Fault.{packed};
 pub use section::{fill, put_if};
 
 // A refusal's number and place; both are 0 where nothing is refused.
-#[derive(Drop)]
+#[derive(Clone, Copy)]
 pub struct Fault {
     pub number: u32,
     pub place: usize,

@@ -154,7 +154,7 @@ fn short_fault(needs: [usize; 7], lent: [usize; 7]) -> Fault
 }
 
 // The answer; where nothing is refused also the network's layout and tallies, for those who write.
-#[derive(Drop)]
+#[derive(Clone, Copy)]
 pub(crate) enum Decision {
     Refused(Compiled),
     Accepted(Compiled, Layout, Tallies),

@@ -14,7 +14,7 @@ pub use decide::sized;
 pub use model::compile;
 
 // A refusal, with counts of 0, or a clear fault with the results' lengths, the number of shared parts and the objective constant.
-#[derive(Drop)]
+#[derive(Clone, Copy)]
 pub struct Compiled {
     pub fault: Fault,
     pub words: usize,

@@ -10,7 +10,7 @@ use network::Layout;
 use tables::tables_of;
 
 // The refusal, or the network's layout and what is counted of it, so that no later function works them out again.
-#[derive(Drop)]
+#[derive(Clone, Copy)]
 pub enum Judged {
     Refused(Fault),
     Sound(Layout, Tallies),

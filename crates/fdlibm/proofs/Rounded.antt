@@ -1,4 +1,4 @@
--- The square root is correctly rounded at every finite x >= 0 (`root-rounded`): a zero is its own root, sign and all, and of any other the root is `Nearest`,
+-- The square root is correctly rounded at every finite x >= 0 (`root_rounded`): a zero is its own root, sign and all, and of any other the root is `Nearest`,
 -- so that no double is nearer to the true root (`closest`).
 use mathlib.Core.Path.{◌≡◌, refl, sym, ap, subst, ◌∙◌}
 use mathlib.Core.Bool.{Bool, true, false, ◌&&◌, false≢true}

@@ -25,7 +25,7 @@ const PIO2_3: f64 = 2.02226624871116645580e-21;
 
 const PIO2_3T: f64 = 8.47842766036889956997e-32;
 
-#[derive(Drop)]
+#[derive(Clone, Copy)]
 pub struct Reduced {
     pub q: u64,
     pub y0: f64,

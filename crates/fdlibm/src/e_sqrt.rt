@@ -2,7 +2,7 @@
 ghost use Rattle.std.specs.Prelude.{◌≡◌, ℕ, ◌+◌, ◌*◌, ◌<◌, ◌≤◌, ◌/◌, ◌%◌, ◌^◌};
 ghost use Rattle.fdlibm.specs.Sqrt.{next_bit, bit_by_bit, start, rounded, root_of, normalized, root_bits, square_root, even_exponent};
 
-#[derive(Drop)]
+#[derive(Clone, Copy)]
 pub struct Root {
     pub s: u64,
     pub ix: u64,

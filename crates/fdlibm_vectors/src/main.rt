@@ -10,7 +10,7 @@ use std::{fs, io};
 const RECORD: usize = 32;
 
 // A record of the file. The floats are bits.
-#[derive(Drop)]
+#[derive(Clone, Copy)]
 struct Vector {
     function: u64,
     x: u64,
@@ -18,7 +18,7 @@ struct Vector {
     expected: u64,
 }
 
-#[derive(Drop)]
+#[derive(Clone, Copy)]
 struct Counts {
     sin: u64,
     cos: u64,

@@ -15,7 +15,7 @@ pub const SHARED_LIMIT: usize = 4352;
 
 // A file that passes reading: its numbers of shared parts and rows, the first row's and the objective's beginning words, and shared part
 // 4,352's where there is one. Else the first wrong word.
-#[derive(Drop)]
+#[derive(Clone, Copy)]
 pub enum FileLayout {
     Passed {
         shared: usize,
@@ -98,7 +98,7 @@ fn read_file(words: &[u32], constants: usize, columns: usize) -> FileLayout
 }
 
 // How many shared parts and rows a file has; or its refusal, and 0 and 0.
-#[derive(Drop)]
+#[derive(Clone, Copy)]
 pub struct Counts {
     pub fault: Fault,
     pub shared: usize,

@@ -10,7 +10,7 @@ use crate::words::wrong_word;
 use base::Fault;
 
 // A check's answer, and where it refuses nothing the network's layout.
-#[derive(Drop)]
+#[derive(Clone, Copy)]
 pub struct Form {
     pub fault: Fault,
     pub layout: Layout,

@@ -21,7 +21,7 @@ use base::{Fault, refusal};
 pub const DEPTH_LIMIT: u32 = 8;
 
 // Where what was read ends, and the number of the next constant; or the first wrong word.
-#[derive(Drop)]
+#[derive(Clone, Copy)]
 pub enum Read {
     Went { at: usize, next: usize },
     Wrong(usize),
@@ -69,7 +69,7 @@ fn operands(kind: u32, load: usize) -> usize
 }
 
 // What a word says that may stand in an expression: how many operands follow it, and the number of the next constant.
-#[derive(Drop)]
+#[derive(Clone, Copy)]
 pub enum Head {
     Open { operands: usize, next: usize },
     Refused,
@@ -184,7 +184,7 @@ fn for_part(i: usize, r: usize, new: usize, old: usize) -> usize
 
 // How many parts were read, where they end, the number of the next constant, and where part r's expression starts and ends;
 // or the first wrong word.
-#[derive(Drop)]
+#[derive(Clone, Copy)]
 pub enum Parts {
     Stop {
         count: usize,
@@ -277,7 +277,7 @@ pub fn read_end(
 }
 
 // The refusal, clear where there is none, and where a row's expression starts and ends, 0 and 0 where it is refused.
-#[derive(Drop)]
+#[derive(Clone, Copy)]
 pub struct Found {
     pub fault: Fault,
     pub start: usize,

@@ -187,7 +187,7 @@ fn size(data: &[u8], at: usize) -> usize
         + record_number(data, at, 5)
 }
 
-#[derive(Drop)]
+#[derive(Clone, Copy)]
 pub struct Tally {
     pub files: usize,
     pub wrong: usize,

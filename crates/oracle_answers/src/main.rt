@@ -349,7 +349,7 @@ fn right(bytes: &[u8], at: usize) -> bool {
     model_right(bytes, at)
 }
 
-#[derive(Drop)]
+#[derive(Clone, Copy)]
 pub struct Tally {
     pub answers: u64,
     pub wrong: u64,

@@ -11,7 +11,7 @@ use network::MOST_POINTS;
 const MOST_SEGMENTS: usize = MOST_POINTS - 1;
 
 // The tables' first `count` entries are the segments'.
-#[derive(Drop)]
+#[derive(Clone, Copy)]
 pub struct PiecewiseCost {
     slopes: [f64; MOST_SEGMENTS],
     intercepts: [f64; MOST_SEGMENTS],

@@ -10,7 +10,7 @@ ghost use Rattle.residuals.specs.internal.Derived.{CostsAre};
 use acopf::counted;
 use network::{Generator, Layout, first_generator, generator_of, next_generator};
 
-#[derive(Drop)]
+#[derive(Clone, Copy)]
 pub struct Costs {
     pub objective: f64,
     pub epigraph: f64,

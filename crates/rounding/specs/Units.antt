@@ -8,7 +8,7 @@ abbrev pub signed : Bool → ℕ → ℤ
 signed false n = pos n
 signed true n = neg_ℤ (pos n)
 
--- x * 2^1074, a whole number for every finite double (the division is exact: units-whole, proofs/Units.antt). 0 for a NaN and an infinity.
+-- x * 2^1074, a whole number for every finite double (the division is exact: units_whole, proofs/Units.antt). 0 for a NaN and an infinity.
 unfoldable pub units : Float → ℤ
 units nan = pos 0
 units (inf s) = pos 0

@@ -161,7 +161,7 @@ fn settled(
 }
 
 // A refusal's number and place, or 0 and 0, the objective's value, and how many shared parts and rows have theirs in the lists.
-#[derive(Drop)]
+#[derive(Clone, Copy)]
 pub struct RowValues {
     pub fault: Fault,
     pub objective: f64,

@@ -33,7 +33,7 @@ fn first_fault(earlier: Fault, e: Scanned, at: usize) -> Fault
 }
 
 // Parts of one kind: how many, the place after them, the number of the next constant, and the first fault of their values.
-#[derive(Drop)]
+#[derive(Clone, Copy)]
 pub struct Run {
     pub count: usize,
     pub at: usize,
@@ -42,7 +42,7 @@ pub struct Run {
 }
 
 // All parts of one kind, or the first wrong word; or there are more shared parts than may be worked out.
-#[derive(Drop)]
+#[derive(Clone, Copy)]
 pub enum Scan {
     Stop(Run),
     Bad(usize),
@@ -126,7 +126,7 @@ pub(crate) fn scan_rows(
 }
 
 // The objective's value and its fault, or the first wrong word.
-#[derive(Drop)]
+#[derive(Clone, Copy)]
 pub enum End {
     Whole { value: f64, fault: Fault },
     Wrong(usize),
@@ -165,7 +165,7 @@ fn scan_end(
 
 // How many shared parts and rows a file has, where its rows start and the number of their first constant, the objective's value, and the
 // first fault of a value.
-#[derive(Drop)]
+#[derive(Clone, Copy)]
 pub struct File {
     pub shared: usize,
     pub rows: usize,
@@ -176,7 +176,7 @@ pub struct File {
 }
 
 // A file that passes reading, or the first wrong word; or there are more shared parts than may be worked out.
-#[derive(Drop)]
+#[derive(Clone, Copy)]
 pub enum FileScan {
     Worked(File),
     Failed(usize),

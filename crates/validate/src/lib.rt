@@ -15,7 +15,7 @@ pub use boundary::{
 pub use primal::check;
 pub use report::residuals;
 
-#[derive(Drop)]
+#[derive(Clone, Copy)]
 pub struct Checked {
     pub fault: Fault,
     pub objective: f64,

@@ -9,7 +9,7 @@ use network::Layout;
 use residuals::{costs_at, residuals_at};
 
 // Where the fault is 15 the residuals are 0.
-#[derive(Drop)]
+#[derive(Clone, Copy)]
 pub(crate) struct Measured {
     pub fault: Fault,
     pub objective: f64,

@@ -252,7 +252,7 @@ fn right(data: &[u8], at: usize) -> bool {
     values_right(data, at, &words[..w], &constants[..c], &point[..p])
 }
 
-#[derive(Drop)]
+#[derive(Clone, Copy)]
 pub struct Tally {
     pub cases: usize,
     pub wrong: usize,

@@ -1,5 +1,5 @@
 -- "infinite and NaN constants of foreign files pass reading, and end in 14 or 19 at their part or before" (docs/DECISIONS.md): a value that is not
--- refused is worked out from finite numbers alone. (Reading looks at the number of constants, not at their values: `says-17` in Order.)
+-- refused is worked out from finite numbers alone. (Reading looks at the number of constants, not at their values: `says_17` in Order.)
 use mathlib.Core.Path.{◌≡◌, refl, ap, sym, subst, ◌∙◌}
 use mathlib.Core.List.{List, [], ◌∷◌, ◌++◌, map, map-append}
 use mathlib.Core.Bool.{Bool, true, false, cond, ◌&&◌, beq, false≢true}

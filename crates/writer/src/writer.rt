@@ -4,7 +4,7 @@ ghost use Rattle.std.specs.Prelude.{map, ◌+◌, ◌≤◌, length};
 ghost use Rattle.base.specs.internal.Section.{Wrote};
 ghost use Rattle.writer.specs.internal.Tokens.{Put, through_bits};
 
-#[derive(Drop)]
+#[derive(Clone, Copy)]
 pub struct Writer {
     pub word: usize,
     pub constant: usize,
