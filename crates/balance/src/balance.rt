@@ -49,14 +49,13 @@ fn row_head(
     ensures { Written file.old constants.old writer (row_head terms bus demand shunt)
         file.new constants.new result }
 {
-    let part = writer.part;
     let constant = writer.constant;
     put(
         file,
         constants,
         writer,
         &[
-            model_word(ROW, part),
+            model_word(ROW, writer.part),
             model_word(SUM, terms),
             model_word(CONSTANT, constant),
             MULTIPLY,
@@ -90,14 +89,13 @@ fn end_term(part: usize, file: &mut [u32], constants: &mut [f64], writer: Writer
     ensures { Written file.old constants.old writer (list_tokens (scaled (neg one64) (shared part) ∷ []))
         file.new constants.new result }
 {
-    let constant = writer.constant;
     put(
         file,
         constants,
         writer,
         &[
             MULTIPLY,
-            model_word(CONSTANT, constant),
+            model_word(CONSTANT, writer.constant),
             model_word(SHARED, part),
         ],
         &[-1.0],

@@ -28,14 +28,13 @@ fn segment_row(
         (part_tokens 11 (segment_of epigraph pg slope intercept ∷ []))
         file.new constants.new result }
 {
-    let part = writer.part;
     let constant = writer.constant;
     put(
         file,
         constants,
         writer,
         &[
-            model_word(ROW, part),
+            model_word(ROW, writer.part),
             SUBTRACT,
             model_word(COLUMN, epigraph),
             ADD,

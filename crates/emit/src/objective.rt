@@ -21,12 +21,11 @@ fn objective_head(terms: usize, file: &mut [u32], constants: &mut [f64], writer:
         file.new constants.new result }
 {
     if terms == 0 {
-        let constant = writer.constant;
         return put(
             file,
             constants,
             writer,
-            &[OBJECTIVE, model_word(CONSTANT, constant)],
+            &[OBJECTIVE, model_word(CONSTANT, writer.constant)],
             &[0.0],
             0,
         );

@@ -17,12 +17,11 @@ fn reference_row(va: usize, file: &mut [u32], constants: &mut [f64], writer: Wri
     ensures { Written file.old constants.old writer (part_tokens 11 (column va ∷ []))
         file.new constants.new result }
 {
-    let part = writer.part;
     put(
         file,
         constants,
         writer,
-        &[model_word(ROW, part), model_word(COLUMN, va)],
+        &[model_word(ROW, writer.part), model_word(COLUMN, va)],
         &[],
         1,
     )
@@ -68,13 +67,12 @@ fn angle_row(
         file.new constants.new result }
 {
     if active {
-        let part = writer.part;
         return put(
             file,
             constants,
             writer,
             &[
-                model_word(ROW, part),
+                model_word(ROW, writer.part),
                 SUBTRACT,
                 model_word(COLUMN, from),
                 model_word(COLUMN, to),
@@ -132,16 +130,14 @@ fn thermal_row(
     ensures { Written file.old constants.old writer (part_tokens 11 (thermal_of p q square ∷ []))
         file.new constants.new result }
 {
-    let part = writer.part;
-    let constant = writer.constant;
     put(
         file,
         constants,
         writer,
         &[
-            model_word(ROW, part),
+            model_word(ROW, writer.part),
             SUBTRACT,
-            model_word(CONSTANT, constant),
+            model_word(CONSTANT, writer.constant),
             ADD,
             SQUARE,
             model_word(SHARED, p),

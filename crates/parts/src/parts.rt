@@ -19,12 +19,15 @@ fn square_part(vm: usize, file: &mut [u32], constants: &mut [f64], writer: Write
     ensures { Written file.old constants.old writer (part_tokens 10 (square (column vm) ∷ []))
         file.new constants.new result }
 {
-    let part = writer.part;
     put(
         file,
         constants,
         writer,
-        &[model_word(PART, part), SQUARE, model_word(COLUMN, vm)],
+        &[
+            model_word(PART, writer.part),
+            SQUARE,
+            model_word(COLUMN, vm),
+        ],
         &[],
         1,
     )
@@ -146,14 +149,13 @@ fn flow_part(
     ensures { Written file.old constants.old writer (part_tokens 10 (flow_sum first bus c d e ∷ []))
         file.new constants.new result }
 {
-    let part = writer.part;
     let constant = writer.constant;
     put(
         file,
         constants,
         writer,
         &[
-            model_word(PART, part),
+            model_word(PART, writer.part),
             model_word(SUM, 3),
             MULTIPLY,
             model_word(CONSTANT, constant),

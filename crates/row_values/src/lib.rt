@@ -75,18 +75,16 @@ fn length_fault(
 
 // 12 and 13, then what the values have, of a file that was gone through.
 fn late_fault(
-    shared: usize,
-    rows: usize,
-    fault: Fault,
+    file: File,
     columns: usize,
     point: &[f64],
     lent_shared: usize,
     lent_rows: usize,
 ) -> Fault
-    ensures { result ≡ or_else (room_of shared rows lent_shared lent_rows)
-        (or_else (point_fault point.now columns) fault) }
+    ensures { result ≡ or_else (room_of file.shared file.rows lent_shared lent_rows)
+        (or_else (point_fault point.now columns) file.fault) }
 {
-    let room = room_fault(shared, rows, lent_shared, lent_rows);
+    let room = room_fault(file.shared, file.rows, lent_shared, lent_rows);
     if room.number != 0 {
         return room;
     }
@@ -94,7 +92,7 @@ fn late_fault(
     if wrong.number != 0 {
         return wrong;
     }
-    fault
+    file.fault
 }
 
 fn failed(fault: Fault) -> File
@@ -139,15 +137,7 @@ fn settled(
             failed(counts.fault)
         }
         FileScan::Worked(file) => {
-            let fault = late_fault(
-                file.shared,
-                file.rows,
-                file.fault,
-                columns,
-                point,
-                lent_shared,
-                lent_rows,
-            );
+            let fault = late_fault(file, columns, point, lent_shared, lent_rows);
             File {
                 shared: file.shared,
                 rows: file.rows,
@@ -242,23 +232,20 @@ pub fn row_values(
     if file.fault.number != 0 {
         return refused(file.fault);
     }
-    let objective = file.objective;
-    let shared_count = file.shared;
-    let row_count = file.rows;
-    copy_front(&shared, shared_count, shared_out);
+    copy_front(&shared, file.shared, shared_out);
     write_rows(
         words,
         constants,
         point,
-        &shared[..shared_count],
+        &shared[..file.shared],
         file,
         &rows,
         rows_out,
     );
     RowValues {
         fault: refusal::CLEAR,
-        objective,
-        shared: shared_count,
-        rows: row_count,
+        objective: file.objective,
+        shared: file.shared,
+        rows: file.rows,
     }
 }

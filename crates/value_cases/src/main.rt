@@ -172,7 +172,6 @@ fn counts_right(data: &[u8], at: usize, shared: usize, rows: usize, some: bool) 
 }
 
 fn answer_right(data: &[u8], at: usize, answer: RowValues) -> bool {
-    let some = answer.fault.number == 0;
     if !fault_right(data, at, answer.fault) {
         return false;
     }
@@ -181,7 +180,13 @@ fn answer_right(data: &[u8], at: usize, answer: RowValues) -> bool {
             return false;
         }
     }
-    counts_right(data, at, answer.shared, answer.rows, some)
+    counts_right(
+        data,
+        at,
+        answer.shared,
+        answer.rows,
+        answer.fault.number == 0,
+    )
 }
 
 // Row values into two lists of which a front part is lent.
