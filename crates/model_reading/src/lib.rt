@@ -119,7 +119,8 @@ fn counted(shared: usize, rows: usize, extra: usize) -> Counts
     ensures { result ≡ cond (leb shared shared_limit) (record { fault = clear; shared = shared; rows = rows })
         (no_counts (fault SIZE extra)) }
 {
-    if SHARED_LIMIT < shared {
+    let too_many = SHARED_LIMIT < shared;
+    if too_many {
         return no_counts(refusal::SIZE, extra);
     }
     Counts {

@@ -40,7 +40,8 @@ fn room_fault(shared: usize, rows: usize, lent_shared: usize, lent_rows: usize) 
             place: 1,
         };
     }
-    if lent_rows < rows {
+    let too_few = lent_rows < rows;
+    if too_few {
         return Fault {
             number: refusal::SHORT,
             place: 2,

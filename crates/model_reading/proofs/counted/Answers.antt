@@ -4,8 +4,8 @@ use borrow.Author.Tests.{lt-leb, le-leb}
 use Rattle.model_reading.specs.Reading.{shared_limit}
 use Rattle.model_reading.proofs.counted.Goals as goal
 
-pub returns-then-shared-gt-SHARED_LIMIT : goal.returns-then-shared-gt-SHARED_LIMIT
-returns-then-shared-gt-SHARED_LIMIT c = c.no_counts.ensures ∙ simp (lt-leb _ shared_limit c.if-shared-gt-SHARED_LIMIT.true)
+pub returns-then-too_many : goal.returns-then-too_many
+returns-then-too_many c = c.no_counts.ensures ∙ simp (lt-leb _ shared_limit c.if-too_many.true)
 
 pub returns : goal.returns
-returns c = simp (le-leb _ shared_limit c.if-shared-gt-SHARED_LIMIT.false)
+returns c = simp (le-leb _ shared_limit c.if-too_many.false)
