@@ -82,7 +82,7 @@ fn tried(counts: Counts, v: Vector) -> Counts {
     if is_right(v) { c } else { one_wrong(c) }
 }
 
-// All records of a part of the file. Less than a record at the end is wrong.
+// All records. Less than a record at the end is wrong.
 fn all_tried(counts: Counts, bytes: &[u8]) -> Counts {
     let mut c = counts;
     let mut at = 0;
@@ -96,19 +96,16 @@ fn all_tried(counts: Counts, bytes: &[u8]) -> Counts {
     c
 }
 
-// The whole file, in parts of 4,096 bytes.
+// The whole file.
 fn file_tried(bytes: &[u8]) -> Counts {
-    let mut c = Counts {
+    let none = Counts {
         sin: 0,
         cos: 0,
         sqrt: 0,
         hypot: 0,
         wrong: 0,
     };
-    for part in bytes.chunks(4096) {
-        c = all_tried(c, part);
-    }
-    c
+    all_tried(none, bytes)
 }
 
 fn print(rt: &impl Print, name: &str, n: u64) -> io::Result<()> {

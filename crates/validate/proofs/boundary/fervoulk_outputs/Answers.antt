@@ -4,25 +4,16 @@ use Rattle.validate.proofs.boundary.fervoulk_outputs.Goals as goal
 
 pub overflow_mul-result : goal.overflow_mul-result
 overflow_mul-result c =
-    let args = c.args in
-    let ws = args.words.now in
-    let xs = args.numbers.now in
     let L = c.in-Sound.ensures.1.words in
     omega (arith, L.few_buses, L.few_branches)
 
 pub overflow_mul-result-in-Sound : goal.overflow_mul-result-in-Sound
 overflow_mul-result-in-Sound c =
-    let args = c.args in
-    let ws = args.words.now in
-    let xs = args.numbers.now in
     let L = c.in-Sound.ensures.1.words in
     omega (arith, L.few_buses, L.few_branches)
 
 pub overflow_add-result : goal.overflow_add-result
 overflow_add-result c =
-    let args = c.args in
-    let ws = args.words.now in
-    let xs = args.numbers.now in
     let L = c.in-Sound.ensures.1.words in
     omega (arith, L.few_buses, L.few_branches)
 

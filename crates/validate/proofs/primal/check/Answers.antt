@@ -2,11 +2,7 @@ use Rattle.validate.proofs.Entry.{stop_network}
 use Rattle.validate.proofs.primal.check.Goals as goal
 
 pub check_point-requires : goal.check_point-requires
-check_point-requires c =
-    let args = c.args in
-    let ws = args.words.now in
-    let xs = args.numbers.now in
-    c.in-Sound.ensures
+check_point-requires c = c.in-Sound.ensures
 
 pub returns-in-Refused : goal.returns-in-Refused
 returns-in-Refused c =
