@@ -16,8 +16,9 @@ import os
 import struct
 import sys
 
-# What the program has room for: words, constants, numbers of the point, shared values, row values.
+# The most words, constants, numbers of the point, shared values and row values of a case.
 ROOM = [8768, 64, 64, 4416, 4416]
+# The most bytes of the file.
 DATA = 65536
 # A middle is worth its while from here on.
 LEAST = 64

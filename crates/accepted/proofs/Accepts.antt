@@ -13,7 +13,7 @@ use borrow.Author.Tests.{leb-true, le-leb, eqb-true, eq-eqb}
 use Rattle.base.proofs.Firsts.{Clear, or_left, or_right, or_clear, unless_true, unless_clear, unless_proper, first_clear, all_clear, first_proper}
 use Rattle.base.proofs.Loops.{Every, every_nil, every_cons, all_at}
 use Rattle.base.specs.Fault.{clear, fault, unless}
-use Rattle.base.specs.declared.Fault.{Fault}
+use Rattle.base.specs.Fault.{Fault}
 use Rattle.float.proofs.Above.{maximum_law}
 use Rattle.float.proofs.Finite.{finite_append}
 use Rattle.float.specs.Number.{is_finite, AllFinite, maximum, ◌⊖◌, zero64}
@@ -25,7 +25,7 @@ use Rattle.acopf.proofs.Order.{network_proper}
 use Rattle.lists.proofs.NonFinite.{non_finite_clear}
 use Rattle.accepted.proofs.Largest.{largest_law, largest_where_law}
 use Rattle.accepted.specs.Accepted.{NotAbove, Accepted}
-use Rattle.validate.specs.declared.Checked.{Checked}
+use Rattle.validate.specs.Check.{Answer}
 use Rattle.validate.specs.Tolerances.{fault_tolerance, fault_residual}
 use Rattle.validate.specs.Check.{Solved, solved, fault_output, fault_point, fault_swing, fault_derived, fault_of, check_fault, checked}
 use Rattle.validate.proofs.Tolerances.{tolerances_not_below, eight_given, each_right, right_clear, none_above, above_none}
@@ -34,7 +34,7 @@ use Rattle.derived.specs.Outputs.{own_objective, flows, outputs}
 use Rattle.residuals.specs.Residuals.{active_balance, reactive_balance, thermal_limits, variable_bounds, reference_angles, angle_limits, epigraphs, objective_difference, residuals}
 
 -- the two answers of `checked`
-one_of_two : (n : ℕ) (r s : Checked) → r.fault.number ≡ 0 → s.fault.number ≡ n → (cond (eqb n 0) r s).fault.number ≡ n
+one_of_two : (n : ℕ) (r s : Answer) → r.fault.number ≡ 0 → s.fault.number ≡ n → (cond (eqb n 0) r s).fault.number ≡ n
 one_of_two n r s hr hs = go (eqb n 0) refl
   where
     go : (a : Bool) → eqb n 0 ≡ a → (cond a r s).fault.number ≡ n

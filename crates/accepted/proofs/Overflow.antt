@@ -12,7 +12,7 @@ use borrow.Author.Tests.{le-leb, leb-true, leb-false, eq-eqb, not-true}
 use Rattle.base.proofs.Firsts.{Clear, or_go, or_clear, unless_clear, unless_true, all_clear, first_clear, first_fails}
 use Rattle.base.proofs.Loops.{Block}
 use Rattle.base.specs.Fault.{fault, unless}
-use Rattle.base.specs.declared.Fault.{Fault}
+use Rattle.base.specs.Fault.{Fault}
 use Rattle.float.specs.Number.{is_finite, absolute}
 use Rattle.float.proofs.Really.{Number}
 use Rattle.network.specs.Network.{buses, columns}

@@ -15,8 +15,8 @@ use Rattle.network.specs.declared.records.Generator.{Generator}
 use Rattle.network.specs.declared.records.Branch.{Branch}
 use Rattle.network.specs.Layout.{Laid}
 use Rattle.network.specs.internal.Records.{GeneratorRead, BranchRead}
-use Rattle.network.specs.Limits.{most_points, most_generators, most_branches}
-use Rattle.acopf.specs.Tallies.{row_segments, segments_before, Tallied}
+use Rattle.network.specs.Limits.{most_points}
+use Rattle.acopf.specs.Tallies.{row_segments, segments_before, Tallied, Few}
 use Rattle.acopf.specs.declared.tallies.Tallies.{Tallies}
 
 pub tally_none : (t : ℕ → Bool) → tally 0 t ≡ 0
@@ -101,13 +101,13 @@ module _ {ws : List ℕ} {xs : List Float} {l : Layout} where
       }
 
   -- the counts in the code's terms
-  pub few : {t : Tallies} → Laid ws xs l → Tallied ws xs t
-      → (t.angles ≤ most_branches) × (t.rated ≤ most_branches) × (t.segments ≤ most_points * most_generators) × (t.epigraphs ≤ l.generators)
+  pub few : {t : Tallies} → Laid ws xs l → Tallied ws xs t → Few l t
   few L T =
       let m = ap (λ x. x.branches) L.words.is in
-      let k = ap (λ x. x.generators) L.words.is in (
-        omega (arith, T.few_angles, L.words.few_branches),
-        omega (arith, T.few_rated, L.words.few_branches),
-        omega (arith, T.few_segments, L.words.few_generators),
-        omega (arith, T.few_epigraphs),
-      )
+      let k = ap (λ x. x.generators) L.words.is in
+      record {
+        angles = omega (arith, T.few_angles, L.words.few_branches);
+        rated = omega (arith, T.few_rated, L.words.few_branches);
+        segments = omega (arith, T.few_segments, L.words.few_generators);
+        epigraphs = omega (arith, T.few_epigraphs);
+      }

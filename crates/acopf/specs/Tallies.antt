@@ -1,8 +1,9 @@
 -- What the lengths of compile's lists are sums of, beside the layout's own counts.
 use Rattle.std.specs.Prelude.{ℕ, ◌+◌, ◌*◌, ◌≤◌, ◌≡◌, cond, List, Float}
 use Rattle.base.specs.Loop.{loop, tally}
-use Rattle.network.specs.Limits.{most_points}
+use Rattle.network.specs.Limits.{most_points, most_generators, most_branches}
 use Rattle.network.specs.Network.{generators, branches, curved, segments, angled, rated, epigraphs_before}
+use Rattle.network.specs.declared.layout.Layout.{Layout}
 use Rattle.acopf.specs.declared.tallies.Tallies.{Tallies}
 
 module _ (ws : List ℕ) where
@@ -25,3 +26,10 @@ pub record Tallied (ws : List ℕ) (xs : List Float) (t : Tallies) : Type 0 wher
   pub few_rated : t.rated ≤ branches ws
   pub few_segments : t.segments ≤ most_points * generators ws
   pub few_epigraphs : t.epigraphs ≤ generators ws
+
+-- so that sums of the counts fit
+pub record Few (l : Layout) (t : Tallies) : Type 0 where
+  pub angles : t.angles ≤ most_branches
+  pub rated : t.rated ≤ most_branches
+  pub segments : t.segments ≤ most_points * most_generators
+  pub epigraphs : t.epigraphs ≤ l.generators

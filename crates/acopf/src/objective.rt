@@ -1,32 +1,20 @@
 // The objective constant, and how many constants the objective's expression has.
 ghost use Rattle.std.specs.Prelude.{◌≡◌, cond, not, ◌&&◌, ◌-◌, ◌*◌, ◌≤◌, eqb};
 ghost use Rattle.float.specs.Number.{◌⊕◌};
-ghost use Rattle.network.specs.Layout.{Laid};
 ghost use Rattle.network.specs.Limits.{most_generators};
 ghost use Rattle.acopf.specs.Model.{objective_constant};
 
-use network::{Layout, first_generator, generator_of, next_generator};
+use network::Tables;
 
-// A generator without a curve adds its c0.
-fn with_cost(sum: f64, added: bool, c0: f64) -> f64
-    ensures { result ≡ cond added (sum ⊕ c0) sum }
-{
-    if added {
-        return sum + c0;
-    }
-    sum
-}
-
-pub fn objective_constant(words: &[u32], numbers: &[f64], layout: Layout) -> f64
-    requires { Laid words.now numbers.now layout }
-    ensures { result ≡ objective_constant words.now numbers.now }
+// The sum of c0 over the generators without a curve, under header 1.
+pub fn objective_constant(tables: &Tables) -> f64
+    ensures { result ≡ objective_constant tables.now.words.now tables.now.numbers.now }
 {
     let mut sum = 0.0;
-    let mut cursor = first_generator(words, layout);
-    while cursor.index < layout.generators {
-        let generator = generator_of(words, numbers, layout, cursor);
-        sum = with_cost(sum, layout.costs & !generator.curved, generator.cost_0);
-        cursor = next_generator(words, layout, cursor);
+    for (_, generator) in tables.generators() {
+        if tables.layout.costs & !generator.curved {
+            sum += generator.cost_0;
+        }
     }
     sum
 }

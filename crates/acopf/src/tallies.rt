@@ -1,14 +1,13 @@
 // What the lengths of compile's lists are sums of, beside the layout's own counts: one pass over the generators and one over the branches.
 ghost use Rattle.std.specs.Prelude.{◌≡◌, cond, suc, ◌+◌, ◌-◌, ◌*◌, ◌≤◌};
 ghost use Rattle.base.specs.Loop.{tally};
-ghost use Rattle.network.specs.Layout.{Laid};
 ghost use Rattle.network.specs.Limits.{most_points};
 ghost use Rattle.network.specs.Network.{angled, rated, epigraphs_before};
 ghost use Rattle.acopf.specs.Tallies.{segments_before, Tallied};
 
-use network::{Layout, branch_of, first_generator, generator_of, next_generator};
+use network::Tables;
 
-#[derive(Clone, Copy)]
+#[derive(Clone, Copy, Debug, PartialEq, Eq)]
 pub struct Tallies {
     pub angles: usize,
     pub rated: usize,
@@ -31,12 +30,7 @@ pub fn counted(count: usize, test: bool) -> usize
 pub fn row_segments(curved: bool, points: usize) -> usize
     ensures { (result ≡ cond curved (points - 1) 0) × (result ≤ points) }
 {
-    if curved {
-        if points != 0 {
-            return points - 1;
-        }
-    }
-    0
+    if curved { points.saturating_sub(1) } else { 0 }
 }
 
 // The epigraph columns and the segments with rows.
@@ -46,19 +40,16 @@ struct Curves {
     segments: usize,
 }
 
-fn curve_tallies(words: &[u32], numbers: &[f64], layout: Layout) -> Curves
-    requires { Laid words.now numbers.now layout }
-    ensures { (result.epigraphs ≡ epigraphs_before words.now layout.generators) × (result.epigraphs ≤ layout.generators)
-        × (result.segments ≡ segments_before words.now layout.generators) × (result.segments ≤ most_points * layout.generators) }
+fn curve_tallies(tables: &Tables) -> Curves
+    ensures { let ws = tables.now.words.now in let k = tables.now.layout.generators in
+        (result.epigraphs ≡ epigraphs_before ws k) × (result.epigraphs ≤ k)
+        × (result.segments ≡ segments_before ws k) × (result.segments ≤ most_points * k) }
 {
     let mut epigraphs = 0usize;
     let mut segments = 0usize;
-    let mut cursor = first_generator(words, layout);
-    while cursor.index < layout.generators {
-        let generator = generator_of(words, numbers, layout, cursor);
+    for (_, generator) in tables.generators() {
         epigraphs = counted(epigraphs, generator.curved);
         segments += row_segments(generator.curved, generator.points);
-        cursor = next_generator(words, layout, cursor);
     }
     Curves {
         epigraphs,
@@ -73,19 +64,17 @@ struct Limits {
     rated: usize,
 }
 
-fn branch_tallies(words: &[u32], numbers: &[f64], layout: Layout) -> Limits
-    requires { Laid words.now numbers.now layout }
-    ensures { (result.angles ≡ tally layout.branches (angled words.now)) × (result.angles ≤ layout.branches)
-        × (result.rated ≡ tally layout.branches (rated words.now numbers.now)) × (result.rated ≤ layout.branches) }
+fn branch_tallies(tables: &Tables) -> Limits
+    ensures { let ws = tables.now.words.now in let m = tables.now.layout.branches in
+        (result.angles ≡ tally m (angled ws)) × (result.angles ≤ m)
+        × (result.rated ≡ tally m (rated ws tables.now.numbers.now)) × (result.rated ≤ m) }
 {
     let mut angles = 0usize;
     let mut ratings = 0usize;
-    let mut b = 0usize;
-    while b < layout.branches {
-        let branch = branch_of(words, numbers, layout, b);
+    for b in 0..tables.layout.branches {
+        let branch = tables.branch(b);
         angles = counted(angles, branch.angled);
         ratings = counted(ratings, branch.rated);
-        b += 1;
     }
     Limits {
         angles,
@@ -93,12 +82,11 @@ fn branch_tallies(words: &[u32], numbers: &[f64], layout: Layout) -> Limits
     }
 }
 
-pub fn tallies_of(words: &[u32], numbers: &[f64], layout: Layout) -> Tallies
-    requires { Laid words.now numbers.now layout }
-    ensures { Tallied words.now numbers.now result }
+pub fn tallies_of(tables: &Tables) -> Tallies
+    ensures { Tallied tables.now.words.now tables.now.numbers.now result }
 {
-    let curves = curve_tallies(words, numbers, layout);
-    let limits = branch_tallies(words, numbers, layout);
+    let curves = curve_tallies(tables);
+    let limits = branch_tallies(tables);
     Tallies {
         angles: limits.angles,
         rated: limits.rated,

@@ -3,5 +3,6 @@
 
 mod balance;
 mod group;
+mod item;
 
 pub use balance::balances;

@@ -6,7 +6,7 @@ use native.Mathlib.Omega.{arith}
 use lib.ListN.{length, length-append, length-drop, take, drop}
 use lib.Seq.{take_at, drop_at}
 use borrow.Author.Tests.{eq-eqb, ne_eqb}
-use Rattle.base.specs.declared.Fault.{Fault}
+use Rattle.base.specs.Fault.{Fault}
 use Rattle.base.specs.Fault.{left}
 use Rattle.base.proofs.Firsts.{Clear}
 

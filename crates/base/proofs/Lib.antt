@@ -6,3 +6,4 @@ pub mod Scans
 pub mod Totals
 pub mod Sections
 pub mod Order
+pub mod Refusals

@@ -6,7 +6,7 @@ use Prim.Native.Nat.{ℕ, zero, suc, ◌+◌, ◌≤◌, ◌<◌}
 use native.Mathlib.Omega.{arith}
 use lib.Dec.{eqb}
 use borrow.Author.Tests.{eqb-true, eqb-false}
-use Rattle.base.specs.declared.Fault.{Fault}
+use Rattle.base.specs.Fault.{Fault}
 use Rattle.base.specs.Fault.{or_else, clear, Section, section, first_of}
 use Rattle.base.specs.Order.{member, numbers_of, Says, IsFirst}
 use Rattle.base.proofs.Firsts.{Clear, Spans, or_go, or_stop}

@@ -8,7 +8,7 @@ use native.Mathlib.Nat.{add-zero}
 use lib.ListN.{length, get_or}
 use lib.Dec.{eqb}
 use borrow.Author.Tests.{eqb-true}
-use Rattle.base.specs.declared.Fault.{Fault}
+use Rattle.base.specs.Fault.{Fault}
 use Rattle.base.specs.Fault.{fault, clear, unless, or_else, first}
 use Rattle.base.specs.Loop.{loop, table, each, keep}
 use Rattle.base.proofs.Firsts.{Proper, or_go, unless_clear, unless_proper}

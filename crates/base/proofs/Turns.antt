@@ -7,7 +7,7 @@ use native.Mathlib.Numerals.{add-one}
 use native.Mathlib.Omega.{arith}
 use Rattle.base.specs.Fault.{fault, clear, unless, or_else, first}
 use Rattle.base.specs.Loop.{loop}
-use Rattle.base.specs.declared.Fault.{Fault}
+use Rattle.base.specs.Fault.{Fault}
 use Rattle.base.proofs.Firsts.{Clear, Proper, or_go, or_stop, or_clear, unless_clear, first_proper}
 
 module _ (f : ℕ → Fault) where

@@ -1,7 +1,13 @@
 -- A refusal, its number and place (document 01, "Numbers a controller shows"), and the first of several.
-use Rattle.std.specs.Prelude.{ℕ, ◌+◌, ◌-◌, ◌*◌, ◌^◌, min, Bool, cond, List, [], ◌∷◌, ◌++◌, length, drop, eqb}
-use Rattle.base.specs.declared.Fault.{Fault}
+use Rattle.std.specs.Prelude.{ℕ, ◌+◌, ◌-◌, ◌*◌, ◌^◌, min, Bool, cond, List, [], ◌∷◌, ◌++◌, length, drop, eqb, Result, Ok, Err}
+use Rattle.base.specs.declared.refusal.Refusal.{Refusal}
+use Rattle.base.specs.Refusal.{number_of}
 use Rattle.base.specs.Loop.{loop}
+
+-- the number and the place that are shown
+pub record Fault : Type 0 where
+  pub number : ℕ
+  pub place : ℕ
 
 abbrev pub fault : ℕ → ℕ → Fault
 fault number place = record { number = number; place = place }
@@ -39,6 +45,14 @@ first_of (s ∷ t ∷ later) = or_else s.its (first_of (t ∷ later))
 -- a refusal, exactly what it held before"
 abbrev pub left : {A : Type 0} → Fault → List A → List A → List A
 left f result before = cond (eqb f.number 0) (result ++ drop (length result) before) before
+
+-- a refusal as it is shown, and the answer of a check
+abbrev pub shown : Refusal → Fault
+shown r = fault (number_of r.reason) r.place
+
+abbrev pub fault_of : {A : Type 0} → Result A Refusal → Fault
+fault_of (Ok a) = clear
+fault_of (Err r) = shown r
 
 -- across the C boundary: number times 2 to the power 32 plus the place, a larger place given as 2 to the power 32 minus 1
 abbrev pub packed : Fault → ℕ

@@ -1,6 +1,6 @@
 -- What it means that a refusal is the first of several sections, by their places in the list.
 use Rattle.std.specs.Prelude.{ℕ, ◌≡◌, Bool, true, false, ◌||◌, List, [], ◌∷◌, ◌++◌, eqb}
-use Rattle.base.specs.declared.Fault.{Fault}
+use Rattle.base.specs.Fault.{Fault}
 use Rattle.base.specs.Fault.{Section}
 
 abbrev pub member : ℕ → List ℕ → Bool

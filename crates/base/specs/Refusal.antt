@@ -1,5 +1,7 @@
 -- Document 01, "Numbers a controller shows", and document 02: each refusal's number by its word.
 use Rattle.std.specs.Prelude.{ℕ}
+use Rattle.base.specs.declared.refusal.Reason.{Reason}
+use Rattle.base.specs.declared.refusal.Reason.TheVariants.{Words, Size, Count, Blank, Curve, Shift, Bounds, Spread, Rating, Square, Factor, Short, Point, Swing, Derived, Residual, Model, Row, Value, Tolerance}
 
 abbrev pub WORDS : ℕ
 WORDS = 1
@@ -60,3 +62,25 @@ VALUE = 19
 
 abbrev pub TOLERANCE : ℕ
 TOLERANCE = 20
+
+abbrev pub number_of : Reason → ℕ
+number_of Words = WORDS
+number_of Size = SIZE
+number_of Count = COUNT
+number_of Blank = BLANK
+number_of Curve = CURVE
+number_of Shift = SHIFT
+number_of Bounds = BOUNDS
+number_of Spread = SPREAD
+number_of Rating = RATING
+number_of Square = SQUARE
+number_of Factor = FACTOR
+number_of Short = SHORT
+number_of Point = POINT
+number_of Swing = SWING
+number_of Derived = DERIVED
+number_of Residual = RESIDUAL
+number_of Model = MODEL
+number_of Row = ROW
+number_of Value = VALUE
+number_of Tolerance = TOLERANCE

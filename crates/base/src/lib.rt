@@ -1,21 +1,15 @@
 // What the network file, the model file and the refusals share: a word's two parts, and the answer type of every refusal.
 #![tactic(auto)]
 
-pub mod refusal;
+mod refusal;
 mod section;
 
 ghost use Rattle.std.specs.Prelude.{◌≡◌};
 ghost use Rattle.base.specs.Word.{kind_of, load_of};
-ghost use Rattle.base.specs.Fault.{packed};
+ghost use Rattle.base.specs.Fault.{fault_of, packed};
 
+pub use refusal::{Reason, Refusal, unless};
 pub use section::{fill, put_if};
-
-// A refusal's number and place; both are 0 where nothing is refused.
-#[derive(Clone, Copy)]
-pub struct Fault {
-    pub number: u32,
-    pub place: usize,
-}
 
 // A word's kind is its top 4 bits.
 pub fn kind_of(w: u32) -> u32
@@ -31,14 +25,20 @@ pub fn load_of(w: u32) -> u32
     w & 0x0fff_ffff
 }
 
-// The one number that crosses the C boundary.
-pub fn packed(f: Fault) -> u64
-    ensures { result ≡ packed f }
+// A check's answer as a controller shows it: the refusal's number and place, or 0 and 0 where nothing is refused.
+pub fn shown<T: Drop>(answer: Result<T, Refusal>) -> (u32, usize)
+    ensures { (result.0 ≡ (fault_of answer).number) × (result.1 ≡ (fault_of answer).place) }
 {
-    let number = f.number as u64;
-    let place = f.place;
-    if place < 0xffff_ffff {
-        return number * 0x1_0000_0000 + place as u64;
+    match answer {
+        Ok(_) => (0, 0),
+        Err(refusal) => (refusal.reason.number(), refusal.place),
     }
-    number * 0x1_0000_0000 + 0xffff_ffff
+}
+
+// The one number that crosses the C boundary.
+pub fn packed<T: Drop>(answer: Result<T, Refusal>) -> u64
+    ensures { result ≡ packed (fault_of answer) }
+{
+    let (number, place) = shown(answer);
+    u64::from(number) * 0x1_0000_0000 + place.min(0xffff_ffff) as u64
 }

@@ -1,47 +1,55 @@
-// The refusals' numbers, each by its word, and the answer where nothing is refused.
-use crate::Fault;
+// The refusals: why, and where.
+ghost use Rattle.std.specs.Prelude.{◌≡◌, ◌<◌, ◌≤◌};
+ghost use Rattle.base.specs.Fault.{fault, fault_of, unless};
+ghost use Rattle.base.specs.Refusal.{number_of};
 
-pub const CLEAR: Fault = Fault {
-    number: 0,
-    place: 0,
-};
+// Each refusal's word.
+#[derive(Clone, Copy, Debug, PartialEq, Eq)]
+pub enum Reason {
+    Words,
+    Size,
+    Count,
+    Blank,
+    Curve,
+    Shift,
+    Bounds,
+    Spread,
+    Rating,
+    Square,
+    Factor,
+    Short,
+    Point,
+    Swing,
+    Derived,
+    Residual,
+    Model,
+    Row,
+    Value,
+    Tolerance,
+}
 
-pub const WORDS: u32 = 1;
+impl Reason {
+    // The refusals' numbers start at 1, in the order of the words above.
+    pub fn number(self) -> u32
+        ensures { result ≡ number_of self }
+    {
+        self as u32 + 1
+    }
+}
 
-pub const SIZE: u32 = 2;
+// A refusal: its word, and the place that it names.
+#[derive(Clone, Copy, Debug, PartialEq, Eq)]
+pub struct Refusal {
+    pub reason: Reason,
+    pub place: usize,
+}
 
-pub const COUNT: u32 = 3;
-
-pub const BLANK: u32 = 4;
-
-pub const CURVE: u32 = 5;
-
-pub const SHIFT: u32 = 6;
-
-pub const BOUNDS: u32 = 7;
-
-pub const SPREAD: u32 = 8;
-
-pub const RATING: u32 = 9;
-
-pub const SQUARE: u32 = 10;
-
-pub const FACTOR: u32 = 11;
-
-pub const SHORT: u32 = 12;
-
-pub const POINT: u32 = 13;
-
-pub const SWING: u32 = 14;
-
-pub const DERIVED: u32 = 15;
-
-pub const RESIDUAL: u32 = 16;
-
-pub const MODEL: u32 = 17;
-
-pub const ROW: u32 = 18;
-
-pub const VALUE: u32 = 19;
-
-pub const TOLERANCE: u32 = 20;
+// Refused unless the test holds.
+pub fn unless(right: bool, reason: Reason, place: usize) -> Result<(), Refusal>
+    ensures { fault_of result ≡ unless right (fault (number_of reason) place) }
+{
+    if right {
+        return Ok(());
+    }
+    Err(Refusal { reason, place })
+}

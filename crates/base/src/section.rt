@@ -8,10 +8,8 @@ pub fn fill(out: &mut [f64], to: usize, count: usize, value: f64) -> usize
     requires { to + count ≤ length out.old }
     ensures { (Wrote out.old to (replicate count value) out.new result) × (result ≡ to + count) }
 {
-    let mut i = 0usize;
-    while i < count {
+    for i in 0..count {
         out[to + i] = value;
-        i += 1;
     }
     to + count
 }

@@ -1,56 +1,65 @@
-// The three column lists, from a network that 1 to 3 do not refuse. The rest of the lent list stays as it was.
+// The three column lists, each into the front part of a lent list, whose rest stays as it was.
 ghost use Rattle.std.specs.Prelude.{◌≡◌, ◌++◌, ◌≤◌, length, drop};
-ghost use Rattle.network.specs.Layout.{Laid};
 ghost use Rattle.network.specs.Network.{columns};
 ghost use Rattle.acopf.specs.Columns.{column_lower, column_upper, column_start};
-ghost use Rattle.acopf.specs.Tallies.{Tallied};
 
-use crate::ColumnList;
-use crate::sections::{bounded_sections, epigraph_starts, va_starts};
-use acopf::Tallies;
+use crate::sections::{bus_section, epigraph_section, generator_section};
+use acopf::{Case, generator_start, lower_bound, upper_bound, vm_lower, vm_upper};
 use base::fill;
-use network::Layout;
+use bounds::{clamp_start, finite_or};
+use network::Tables;
 
-pub fn write_column_lower(
-    words: &[u32],
-    numbers: &[f64],
-    layout: Layout,
-    tallies: Tallies,
-    out: &mut [f64],
-)
-    requires { (Laid words.now numbers.now layout) × (Tallied words.now numbers.now tallies)
-        × (columns words.now ≤ length out.old) }
-    ensures { let all = column_lower words.now numbers.now in
+pub fn write_column_lower(case: &Case, out: &mut [f64])
+    requires { columns case.now.tables.words.now ≤ length out.old }
+    ensures { let all = column_lower case.now.tables.words.now case.now.tables.numbers.now in
         out.new ≡ all ++ drop (length all) out.old }
 {
-    let vm = fill(out, 0, layout.buses, -1e19);
-    let epigraph = bounded_sections(words, numbers, layout, ColumnList::Lower, out, vm);
-    fill(out, epigraph, tallies.epigraphs, -1e19);
+    let tables = &case.tables;
+    let vm = fill(out, 0, tables.layout.buses, -1e19);
+    // A closure, since no function of another crate can be passed by its name.
+    let pg = bus_section(tables, |bus| vm_lower(bus), out, vm);
+    let qg = generator_section(tables, |g| lower_bound(g.bounded, g.p_min), out, pg);
+    let epigraph = generator_section(tables, |g| lower_bound(g.bounded, g.q_min), out, qg);
+    fill(out, epigraph, case.tallies.epigraphs, -1e19);
 }
 
-pub fn write_column_upper(
-    words: &[u32],
-    numbers: &[f64],
-    layout: Layout,
-    tallies: Tallies,
-    out: &mut [f64],
-)
-    requires { (Laid words.now numbers.now layout) × (Tallied words.now numbers.now tallies)
-        × (columns words.now ≤ length out.old) }
-    ensures { let all = column_upper words.now numbers.now in
+pub fn write_column_upper(case: &Case, out: &mut [f64])
+    requires { columns case.now.tables.words.now ≤ length out.old }
+    ensures { let all = column_upper case.now.tables.words.now case.now.tables.numbers.now in
         out.new ≡ all ++ drop (length all) out.old }
 {
-    let vm = fill(out, 0, layout.buses, 1e19);
-    let epigraph = bounded_sections(words, numbers, layout, ColumnList::Upper, out, vm);
-    fill(out, epigraph, tallies.epigraphs, 1e19);
+    let tables = &case.tables;
+    let vm = fill(out, 0, tables.layout.buses, 1e19);
+    let pg = bus_section(tables, |bus| vm_upper(bus), out, vm);
+    let qg = generator_section(tables, |g| upper_bound(g.bounded, g.p_max), out, pg);
+    let epigraph = generator_section(tables, |g| upper_bound(g.bounded, g.q_max), out, qg);
+    fill(out, epigraph, case.tallies.epigraphs, 1e19);
 }
 
-pub fn write_column_start(words: &[u32], numbers: &[f64], layout: Layout, out: &mut [f64])
-    requires { (Laid words.now numbers.now layout) × (columns words.now ≤ length out.old) }
-    ensures { let all = column_start words.now numbers.now in
+// The starts of vm, pg and qg are clamped to their bounds; those of va are not.
+pub fn write_column_start(tables: &Tables, out: &mut [f64])
+    requires { columns tables.now.words.now ≤ length out.old }
+    ensures { let all = column_start tables.now.words.now tables.now.numbers.now in
         out.new ≡ all ++ drop (length all) out.old }
 {
-    let vm = va_starts(words, numbers, layout, out, 0);
-    let epigraph = bounded_sections(words, numbers, layout, ColumnList::Start, out, vm);
-    epigraph_starts(words, numbers, layout, out, epigraph);
+    let vm = bus_section(tables, |bus| finite_or(bus.va, 0.0), out, 0);
+    let pg = bus_section(
+        tables,
+        |bus| clamp_start(bus.vm, vm_lower(bus), vm_upper(bus)),
+        out,
+        vm,
+    );
+    let qg = generator_section(
+        tables,
+        |g| generator_start(g.bounded, g.pg, g.p_min, g.p_max),
+        out,
+        pg,
+    );
+    let epigraph = generator_section(
+        tables,
+        |g| generator_start(g.bounded, g.qg, g.q_min, g.q_max),
+        out,
+        qg,
+    );
+    epigraph_section(tables, out, epigraph);
 }

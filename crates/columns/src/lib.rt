@@ -3,14 +3,5 @@
 
 mod column_lists;
 mod sections;
-mod values;
 
 pub use column_lists::{write_column_lower, write_column_start, write_column_upper};
-
-// Which of the three lists.
-#[derive(Clone, Copy)]
-pub(crate) enum ColumnList {
-    Lower,
-    Upper,
-    Start,
-}

@@ -1,119 +1,67 @@
 // The sections of a column list. Each is written from the place `to` on, and its writer answers the place after it.
-ghost use Rattle.std.specs.Prelude.{◌≡◌, ◌+◌, ◌*◌, ◌≤◌, length};
+ghost use Rattle.std.specs.Prelude.{◌≡◌, ◌+◌, ◌≤◌, length, Float};
+ghost use Rattle.base.specs.Loop.{table, each, keep};
 ghost use Rattle.base.specs.internal.Section.{Wrote};
-ghost use Rattle.network.specs.Layout.{Laid};
-ghost use Rattle.network.specs.Network.{epigraphs_before};
-ghost use Rattle.columns.specs.internal.Value.{va_starts, vm_columns, generator_columns, bounded_columns, epigraph_starts};
+ghost use Rattle.network.specs.declared.records.Bus.{Bus};
+ghost use Rattle.network.specs.declared.records.Generator.{Generator};
+ghost use Rattle.network.specs.Network.{curved, epigraphs_before};
+ghost use Rattle.network.specs.internal.Records.{bus_record, generator_record};
+ghost use Rattle.acopf.specs.Columns.{epigraph_start};
 
-use crate::ColumnList;
-use crate::values::{column_value, generator_value};
-use acopf::{vm_lower, vm_upper};
-use network::{Layout, bus_of, first_generator, generator_of, next_generator};
+use acopf::epigraph_start;
+use network::{Bus, Generator, Tables};
 
-// A start of va is not clamped.
-pub(crate) fn va_starts(
-    words: &[u32],
-    numbers: &[f64],
-    layout: Layout,
+// The value of each bus.
+pub(crate) fn bus_section<F: Fn(Bus) -> f64>(
+    tables: &Tables,
+    value: F,
     out: &mut [f64],
     to: usize,
 ) -> usize
-    requires { (Laid words.now numbers.now layout) × (to + layout.buses ≤ length out.old) }
-    ensures { let section = va_starts words.now numbers.now layout.buses in
-        Wrote out.old to section out.new result × (result ≡ to + layout.buses) }
+    requires callable { F.IsAlwaysCallable value }
+    requires room { to + tables.now.layout.buses ≤ length out.old }
+    ensures section { let ws = tables.now.words.now in let xs = tables.now.numbers.now in
+        (f : Bus → Float) → ((bus : Bus) (v : Float) → F.post value bus v → v ≡ f bus)
+        → Wrote out.old to (table tables.now.layout.buses (λ i. f (bus_record ws xs i))) out.new result }
+    ensures next { result ≡ to + tables.now.layout.buses }
 {
-    let mut i = 0usize;
-    while i < layout.buses {
-        let bus = bus_of(words, numbers, layout, i);
-        out[to + i] = bounds::finite_or(bus.va, 0.0);
-        i += 1;
+    for i in 0..tables.layout.buses {
+        out[to + i] = value(tables.bus(i));
     }
-    to + layout.buses
+    to + tables.layout.buses
 }
 
-fn vm_section(
-    words: &[u32],
-    numbers: &[f64],
-    layout: Layout,
-    list: ColumnList,
+// The value of each generator.
+pub(crate) fn generator_section<F: Fn(Generator) -> f64>(
+    tables: &Tables,
+    value: F,
     out: &mut [f64],
     to: usize,
 ) -> usize
-    requires { (Laid words.now numbers.now layout) × (to + layout.buses ≤ length out.old) }
-    ensures { let section = vm_columns words.now numbers.now list layout.buses in
-        Wrote out.old to section out.new result × (result ≡ to + layout.buses) }
+    requires callable { F.IsAlwaysCallable value }
+    requires room { to + tables.now.layout.generators ≤ length out.old }
+    ensures section { let ws = tables.now.words.now in let xs = tables.now.numbers.now in
+        (f : Generator → Float) → ((generator : Generator) (v : Float) → F.post value generator v → v ≡ f generator)
+        → Wrote out.old to (table tables.now.layout.generators (λ g. f (generator_record ws xs g))) out.new result }
+    ensures next { result ≡ to + tables.now.layout.generators }
 {
-    let mut i = 0usize;
-    while i < layout.buses {
-        let bus = bus_of(words, numbers, layout, i);
-        let lower = vm_lower(bus);
-        let upper = vm_upper(bus);
-        out[to + i] = column_value(list, bus.vm, lower, upper);
-        i += 1;
+    for (g, generator) in tables.generators() {
+        out[to + g] = value(generator);
     }
-    to + layout.buses
+    to + tables.layout.generators
 }
 
-// pg where active, else qg.
-fn generator_section(
-    words: &[u32],
-    numbers: &[f64],
-    layout: Layout,
-    list: ColumnList,
-    active: bool,
-    out: &mut [f64],
-    to: usize,
-) -> usize
-    requires { (Laid words.now numbers.now layout) × (to + layout.generators ≤ length out.old) }
-    ensures { let section = generator_columns words.now numbers.now list active layout.generators in
-        Wrote out.old to section out.new result × (result ≡ to + layout.generators) }
-{
-    let mut cursor = first_generator(words, layout);
-    while cursor.index < layout.generators {
-        let generator = generator_of(words, numbers, layout, cursor);
-        out[to + cursor.index] = generator_value(list, active, generator);
-        cursor = next_generator(words, layout, cursor);
-    }
-    to + layout.generators
-}
-
-// The columns that the table can bound: vm, pg, qg.
-pub(crate) fn bounded_sections(
-    words: &[u32],
-    numbers: &[f64],
-    layout: Layout,
-    list: ColumnList,
-    out: &mut [f64],
-    to: usize,
-) -> usize
-    requires { (Laid words.now numbers.now layout) × (to + layout.buses + 2 * layout.generators ≤ length out.old) }
-    ensures { let section = bounded_columns words.now numbers.now list layout.buses layout.generators in
-        Wrote out.old to section out.new result × (result ≡ to + layout.buses + 2 * layout.generators) }
-{
-    let pg = vm_section(words, numbers, layout, list, out, to);
-    let qg = generator_section(words, numbers, layout, list, true, out, pg);
-    generator_section(words, numbers, layout, list, false, out, qg)
-}
-
-pub(crate) fn epigraph_starts(
-    words: &[u32],
-    numbers: &[f64],
-    layout: Layout,
-    out: &mut [f64],
-    to: usize,
-) -> usize
-    requires { (Laid words.now numbers.now layout)
-        × (to + epigraphs_before words.now layout.generators ≤ length out.old) }
-    ensures { let section = epigraph_starts words.now numbers.now layout.generators in
-        Wrote out.old to section out.new result }
+// The start of each epigraph.
+pub(crate) fn epigraph_section(tables: &Tables, out: &mut [f64], to: usize) -> usize
+    requires { to + epigraphs_before tables.now.words.now tables.now.layout.generators ≤ length out.old }
+    ensures { let ws = tables.now.words.now in let xs = tables.now.numbers.now in
+        let starts = each tables.now.layout.generators (λ g. keep (curved ws g) (epigraph_start ws xs g)) in
+        Wrote out.old to starts out.new result }
 {
     let mut next = to;
-    let mut cursor = first_generator(words, layout);
-    while cursor.index < layout.generators {
-        let generator = generator_of(words, numbers, layout, cursor);
-        let start = acopf::epigraph_start(numbers, generator);
+    for (_, generator) in tables.generators() {
+        let start = epigraph_start(tables.numbers, generator);
         next = base::put_if(out, next, generator.curved, start);
-        cursor = next_generator(words, layout, cursor);
     }
     next
 }

@@ -11,7 +11,7 @@ use lib.Dec.{eqb, leb}
 use lib.Ieee.{Float}
 use borrow.Author.Tests.{leb-true, le-leb, eqb-true, eqb-false}
 use Rattle.base.specs.Word.{word}
-use Rattle.base.specs.declared.Fault.{Fault}
+use Rattle.base.specs.Fault.{Fault}
 use Rattle.base.specs.Fault.{fault, clear}
 use Rattle.base.proofs.Firsts.{Clear, Proper, or_left, or_right, or_clear, or_proper, unless_true, unless_clear, unless_proper, first_clear, all_clear, first_proper}
 use Rattle.base.proofs.Left.{left_front}
@@ -24,20 +24,19 @@ use Rattle.acopf.specs.Model.{model, file_words}
 use Rattle.acopf.specs.Factor.{constants64, network_fault}
 use Rattle.acopf.proofs.Order.{network_proper}
 use Rattle.acopf.proofs.Counts.{lower_columns, upper_columns, start_columns, lower_rows, upper_rows, model_rows, length_shared, model_shared, count_constants}
-use Rattle.compile.specs.declared.Compiled.{Compiled}
-use Rattle.compile.specs.Compile.{lengths, fault_short, compile_fault, refused, accepted, compiled, sized}
+use Rattle.compile.specs.Compile.{Answer, lengths, fault_short, compile_fault, refused, accepted, compiled, sized}
 use Rattle.compile.specs.Counted.{Counted, Suffice, Fronts}
 use Rattle.compile.proofs.Order.{compile_is}
-use Rattle.compile.proofs.Answer.{sized_accepted, sized_refused}
+use Rattle.compile.proofs.Answer.{sized_accepted, network_refused}
 
 -- the answer of one of two whose number is 0, where the other's is not
-answered : (P : Compiled → Type 0) (b : Bool) (full refused : Compiled) → P full → (b ≡ false → refused.fault.number ≡ 0 → ⊥)
+answered : (P : Answer → Type 0) (b : Bool) (full refused : Answer) → P full → (b ≡ false → refused.fault.number ≡ 0 → ⊥)
     → (cond b full refused).fault.number ≡ 0 → P (cond b full refused)
 answered P true full refused h k e = h
 answered P false full refused h k e = absurd (k refl e)
 
 -- the fault of the two answers of `compiled`
-one_of_two : (f : Fault) (full refused : Compiled) → Proper f → full.fault ≡ clear → refused.fault ≡ f → (cond (eqb f.number 0) full refused).fault ≡ f
+one_of_two : (f : Fault) (full refused : Answer) → Proper f → full.fault ≡ clear → refused.fault ≡ f → (cond (eqb f.number 0) full refused).fault ≡ f
 one_of_two f full refused proper h k = go (eqb f.number 0) refl
   where
     go : (b : Bool) → eqb f.number 0 ≡ b → (cond b full refused).fault ≡ f
@@ -148,7 +147,7 @@ module _ (ws : List ℕ) (xs : List Float) where
   unfolding compiled refused
   told lent e =
       answered (λ c. c ≡ accepted ws xs) (eqb (compile_fault ws xs lent).number 0) _ _ refl (eqb-false (compile_fault ws xs lent).number 0) e
-      ∙ sized_accepted ws xs ((compiled_exactly lent).0 e).0 refl
+      ∙ sized_accepted ws xs (sym ((compiled_exactly lent).0 e).0)
 
   -- a file has at least its last word
   pub words_some : 0 < length (file_words ws xs)
@@ -164,9 +163,9 @@ module _ (ws : List ℕ) (xs : List Float) where
 
   -- so that 0 is said exactly of a network that 1 to 11 refuse
   pub words_exactly : ((sized ws xs).words ≡ 0) ↔ ¬ (network_fault ws xs ≡ clear)
-  unfolding accepted refused
+  unfolding accepted refused sized
   words_exactly = (
-    λ e k. let z : length (file_words ws xs) ≡ 0 = ap (λ c. c.words) (sized_accepted ws xs k refl) ∙ e in
+    λ e k. let z : length (file_words ws xs) ≡ 0 = ap (λ c. c.words) (sized_accepted ws xs (sym k)) ∙ e in
         omega (arith, z, words_some),
-    λ n. sym (ap (λ c. c.words) (sized_refused ws xs refl refl (λ c. n (network_proper ws xs c)))),
+    λ n. sym (ap (λ c. c.words) (network_refused ws xs (lengths ws xs) refl (λ c. n (network_proper ws xs c)))),
   )

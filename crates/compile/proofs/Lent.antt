@@ -16,8 +16,7 @@ use Rattle.acopf.specs.Model.{file_words}
 use Rattle.acopf.specs.Factor.{constants64}
 use Rattle.acopf.proofs.Counts.{lower_columns, upper_columns, start_columns, lower_rows, upper_rows}
 use Rattle.acopf.proofs.Right.{tables_clear}
-use Rattle.compile.specs.declared.Compiled.{Compiled}
-use Rattle.compile.specs.Compile.{compile_fault, compiled}
+use Rattle.compile.specs.Compile.{Answer, compile_fault, compiled}
 use Rattle.compile.specs.Lists.{Lists, lent, Held}
 use Rattle.compile.specs.Counted.{Suffice}
 use Rattle.compile.proofs.Counts.{fault_is, compiled_exactly}
@@ -26,7 +25,7 @@ use Rattle.compile.proofs.Counts.{fault_is, compiled_exactly}
 abbrev Front : {A : Type 0} → List A → List A → List A → Type 0
 Front result before after = after ≡ result ++ drop (length result) before
 
-module _ (ws : List ℕ) (xs : List Float) (before : Lists) {answer : Compiled} (is : answer ≡ compiled ws xs (lent before)) where
+module _ (ws : List ℕ) (xs : List Float) (before : Lists) {answer : Answer} (is : answer ≡ compiled ws xs (lent before)) where
   numbers_agree : answer.fault.number ≡ (compile_fault ws xs (lent before)).number
   numbers_agree = ap (λ a. a.fault.number) is ∙ ap (λ f. f.number) (fault_is ws xs (lent before))
 

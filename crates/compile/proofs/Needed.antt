@@ -2,7 +2,7 @@
 use mathlib.Core.Path.{◌≡◌, ap, ◌∙◌}
 use mathlib.Core.List.{List}
 use mathlib.Core.Bool.{cond, not, ◌&&◌}
-use Prim.Native.Nat.{ℕ, ◌+◌, ◌-◌, ◌*◌, ◌≤◌}
+use Prim.Native.Nat.{ℕ, ◌+◌, ◌-◌, ◌*◌}
 use native.Mathlib.Omega.{arith}
 use lib.Dec.{eqb, ltb}
 use lib.ListN.{length}
@@ -12,7 +12,6 @@ use Rattle.base.proofs.Firsts.{Clear}
 use Rattle.base.proofs.Loops.{bit}
 use Rattle.network.specs.declared.layout.Layout.{Layout}
 use Rattle.network.specs.Layout.{Laid}
-use Rattle.network.specs.Limits.{most_buses, most_generators, most_branches, most_references, most_points}
 use Rattle.network.specs.Network.{buses, generators, branches, references, columns}
 use Rattle.tables.specs.Fault.{fault_tables}
 use Rattle.tables.proofs.Right.{words_clear}
@@ -23,10 +22,8 @@ use Rattle.acopf.specs.Parts.{shared_parts}
 use Rattle.acopf.specs.Rows.{rows}
 use Rattle.acopf.specs.Factor.{constants64}
 use Rattle.acopf.proofs.Counts.{length_shared}
-use Rattle.acopf.proofs.Tallied.{few}
 use Rattle.acopf.proofs.Sizes.{objective_constants, objective_words, count_rows, count_of_constants, count_of_words}
-use Rattle.compile.specs.declared.Compiled.{Compiled}
-use Rattle.compile.specs.Compile.{accepted}
+use Rattle.compile.specs.Compile.{Answer, accepted}
 
 module _ {ws : List ℕ} {xs : List Float} {l : Layout} (L : Laid ws xs l) where
   n_is : l.buses ≡ buses ws
@@ -45,31 +42,6 @@ module _ {ws : List ℕ} {xs : List Float} {l : Layout} (L : Laid ws xs l) where
   shared_are = omega (arith, length_shared ws xs, n_is, m_is)
 
   module _ {t : Tallies} (T : Tallied ws xs t) where
-    -- small enough for every sum below
-    pub record Small : Type 0 where
-      pub buses : l.buses ≤ most_buses
-      pub generators : l.generators ≤ most_generators
-      pub branches : l.branches ≤ most_branches
-      pub references : l.references ≤ most_references
-      pub angles : t.angles ≤ most_branches
-      pub rated : t.rated ≤ most_branches
-      pub segments : t.segments ≤ most_points * most_generators
-      pub epigraphs : t.epigraphs ≤ l.generators
-
-    pub small : Small
-    small =
-        let f = few L T in
-        record {
-          buses = L.words.few_buses;
-          generators = L.words.few_generators;
-          branches = L.words.few_branches;
-          references = L.words.few_references;
-          angles = f.0;
-          rated = f.1;
-          segments = f.2;
-          epigraphs = f.3;
-        }
-
     -- the objective's shares, by the network's own numbers
     own_words : cond (l.costs && not (eqb l.generators 0)) (bit (ltb 1 l.generators) + (t.epigraphs + 8 * (l.generators - t.epigraphs))) 1
         ≡ objective_words ws
@@ -106,6 +78,6 @@ module _ {ws : List ℕ} {xs : List Float} {l : Layout} (L : Laid ws xs l) where
 
 pub accepted_is : (ws : List ℕ) (xs : List Float) {w c n r s : ℕ} {o : Float} → w ≡ length (file_words ws xs) → c ≡ length (constants64 ws xs)
     → n ≡ columns ws → r ≡ length (rows ws xs) → s ≡ length (shared_parts ws xs) → o ≡ objective_constant ws xs
-    → ◌≡◌ {A = Compiled} (record { fault = clear; words = w; constants = c; columns = n; rows = r; shared = s; objective = o }) (accepted ws xs)
+    → ◌≡◌ {A = Answer} (record { fault = clear; words = w; constants = c; columns = n; rows = r; shared = s; objective = o }) (accepted ws xs)
 unfolding accepted
 accepted_is ws xs w c n r s o = rw (w, c, n, r, s, o)

@@ -1,7 +1,7 @@
 -- Document 01, "The model file" and refusal 12: what compile answers, and what the seven lent lists then hold.
-use Rattle.std.specs.Prelude.{ℕ, ◌+◌, cond, List, [], ◌∷◌, ◌++◌, length, get_or, eqb, leb, Float}
-use Rattle.base.specs.declared.Fault.{Fault}
-use Rattle.base.specs.Fault.{fault, clear, unless, first, Section, section, first_of, left}
+use Rattle.std.specs.Prelude.{ℕ, ◌+◌, cond, List, [], ◌∷◌, ◌++◌, length, get_or, eqb, leb, Float, Result, Ok, Err}
+use Rattle.base.specs.Fault.{Fault}
+use Rattle.base.specs.Fault.{fault, clear, shown, unless, first, Section, section, first_of, left}
 use Rattle.base.specs.Refusal.{SHORT}
 use Rattle.float.specs.Number.{zero64}
 use Rattle.network.specs.Network.{columns}
@@ -11,10 +11,38 @@ use Rattle.acopf.specs.Rows.{rows, row_lower, row_upper}
 use Rattle.acopf.specs.Model.{objective_constant, file_words}
 use Rattle.acopf.specs.Factor.{constants64, network_sections}
 use Rattle.compile.specs.declared.Compiled.{Compiled}
+use Rattle.base.specs.declared.refusal.Refusal.{Refusal}
+
+-- what the answer says: a refusal's number and place, five counts and the objective constant
+pub record Answer : Type 0 where
+  pub fault : Fault
+  pub words : ℕ
+  pub constants : ℕ
+  pub columns : ℕ
+  pub rows : ℕ
+  pub shared : ℕ
+  pub objective : Float
 
 -- "A refusal gives number and place, all else 0"
-unfoldable pub refused : Fault → Compiled
+unfoldable pub refused : Fault → Answer
 refused f = record { fault = f; words = 0; constants = 0; columns = 0; rows = 0; shared = 0; objective = zero64 }
+
+-- what is said where nothing is refused, and the answer as it is said
+abbrev pub counted : Compiled → Answer
+counted c =
+    record {
+      fault = clear;
+      words = c.words;
+      constants = c.constants;
+      columns = c.columns;
+      rows = c.rows;
+      shared = c.shared;
+      objective = c.objective;
+    }
+
+abbrev pub answer_of : Result Compiled Refusal → Answer
+answer_of (Ok c) = counted c
+answer_of (Err r) = refused (shown r)
 
 module _ (ws : List ℕ) (xs : List Float) where
   -- the results' lengths: "Seven lists, in refusal 12's order: words, constants, column lower, upper, start, row lower, upper"
@@ -37,7 +65,7 @@ module _ (ws : List ℕ) (xs : List Float) where
   compile_fault lent = first_of (compile_sections lent)
 
   -- "five counts (words, constants, columns, rows, shared parts) and the objective constant"
-  unfoldable pub accepted : Compiled
+  unfoldable pub accepted : Answer
   accepted =
       record {
         fault = clear;
@@ -50,17 +78,17 @@ module _ (ws : List ℕ) (xs : List Float) where
       }
 
   -- the answer with this refusal, or with none
-  abbrev pub answered : Fault → Compiled
+  abbrev pub answered : Fault → Answer
   answered f = cond (eqb f.number 0) accepted (refused f)
 
   -- the answer, where the seven lists have the lengths `lent`
-  unfoldable pub compiled : List ℕ → Compiled
+  unfoldable pub compiled : List ℕ → Answer
   compiled lent =
       let f = compile_fault lent in
       answered f
 
   -- the answer where each list is exactly as long as its result: a host sizes its lists by it
-  unfoldable pub sized : Compiled
+  unfoldable pub sized : Answer
   sized = compiled lengths
 
   -- what the seven lists hold after the call, from what they held before: the result in front and the rest as it was, or all as it was

@@ -7,12 +7,11 @@ use Rattle.acopf.specs.Columns.{column_lower, column_upper, column_start}
 use Rattle.acopf.specs.Rows.{row_lower, row_upper}
 use Rattle.acopf.specs.Model.{model, file_words}
 use Rattle.acopf.specs.Factor.{constants64}
-use Rattle.compile.specs.declared.Compiled.{Compiled}
-use Rattle.compile.specs.Compile.{compiled, words_after, constants_after}
+use Rattle.compile.specs.Compile.{Answer, compiled, words_after, constants_after}
 use Rattle.compile.specs.Compile.{column_lower_after, column_upper_after, start_after, row_lower_after, row_upper_after}
 
 -- the five counts of an answer c are those of the lists, and of the model's constants, rows and shared parts
-pub record Counted (ws : List ℕ) (xs : List Float) (c : Compiled) : Type 0 where
+pub record Counted (ws : List ℕ) (xs : List Float) (c : Answer) : Type 0 where
   pub words : c.words ≡ length (file_words ws xs)
   pub constants : c.constants ≡ length (constants64 ws xs)
   pub model_constants_is : c.constants ≡ length (model_constants (model ws xs))

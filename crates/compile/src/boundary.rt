@@ -40,55 +40,55 @@ pub extern "C" fn fervoulk_compile(
         row_lower,
         row_upper,
     );
-    base::packed(answer.fault)
+    base::packed(answer)
 }
 
 // The numbers of the answer that a host needs before it lends lists: those of lists exactly as long as their results, and 0 where the
 // network is refused.
 #[unsafe(no_mangle)]
+#[tactic(auto, unfolding(crate::specs::Compile::refused))]
 pub extern "C" fn fervoulk_words(words: &[u32], numbers: &[f64]) -> usize
     ensures { result ≡ (sized words.now numbers.now).words }
 {
-    let answer = sized(words, numbers);
-    answer.words
+    sized(words, numbers).map_or(0, |answer| answer.words)
 }
 
 #[unsafe(no_mangle)]
+#[tactic(auto, unfolding(crate::specs::Compile::refused))]
 pub extern "C" fn fervoulk_constants(words: &[u32], numbers: &[f64]) -> usize
     ensures { result ≡ (sized words.now numbers.now).constants }
 {
-    let answer = sized(words, numbers);
-    answer.constants
+    sized(words, numbers).map_or(0, |answer| answer.constants)
 }
 
 #[unsafe(no_mangle)]
+#[tactic(auto, unfolding(crate::specs::Compile::refused))]
 pub extern "C" fn fervoulk_columns(words: &[u32], numbers: &[f64]) -> usize
     ensures { result ≡ (sized words.now numbers.now).columns }
 {
-    let answer = sized(words, numbers);
-    answer.columns
+    sized(words, numbers).map_or(0, |answer| answer.columns)
 }
 
 #[unsafe(no_mangle)]
+#[tactic(auto, unfolding(crate::specs::Compile::refused))]
 pub extern "C" fn fervoulk_rows(words: &[u32], numbers: &[f64]) -> usize
     ensures { result ≡ (sized words.now numbers.now).rows }
 {
-    let answer = sized(words, numbers);
-    answer.rows
+    sized(words, numbers).map_or(0, |answer| answer.rows)
 }
 
 #[unsafe(no_mangle)]
+#[tactic(auto, unfolding(crate::specs::Compile::refused))]
 pub extern "C" fn fervoulk_shared(words: &[u32], numbers: &[f64]) -> usize
     ensures { result ≡ (sized words.now numbers.now).shared }
 {
-    let answer = sized(words, numbers);
-    answer.shared
+    sized(words, numbers).map_or(0, |answer| answer.shared)
 }
 
 #[unsafe(no_mangle)]
+#[tactic(auto, unfolding(crate::specs::Compile::refused))]
 pub extern "C" fn fervoulk_objective_constant(words: &[u32], numbers: &[f64]) -> f64
     ensures { result ≡ (sized words.now numbers.now).objective }
 {
-    let answer = sized(words, numbers);
-    answer.objective
+    sized(words, numbers).map_or(0.0, |answer| answer.objective)
 }

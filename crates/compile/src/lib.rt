@@ -5,7 +5,6 @@ mod boundary;
 mod decide;
 mod model;
 
-use base::Fault;
 pub use boundary::{
     fervoulk_columns, fervoulk_compile, fervoulk_constants, fervoulk_objective_constant,
     fervoulk_rows, fervoulk_shared, fervoulk_words,
@@ -13,10 +12,9 @@ pub use boundary::{
 pub use decide::sized;
 pub use model::compile;
 
-// A refusal, with counts of 0, or a clear fault with the results' lengths, the number of shared parts and the objective constant.
-#[derive(Clone, Copy)]
+// The results' lengths, the number of shared parts, and the objective constant.
+#[derive(Clone, Copy, Debug, PartialEq)]
 pub struct Compiled {
-    pub fault: Fault,
     pub words: usize,
     pub constants: usize,
     pub columns: usize,

@@ -11,7 +11,7 @@ use std::io::{Read, Write};
 fn read_full(mut from: impl Read + Drop, to: &mut [u8]) -> io::Result<usize>
     ensures { IfOk result (λ n. n ≤ length to.new) }
 {
-    let mut n = 0usize;
+    let mut n = 0;
     while n < to.len() {
         let got = from.read(&mut to[n..])?;
         if got == 0 {

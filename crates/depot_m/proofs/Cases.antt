@@ -6,6 +6,7 @@ use lib.ListN.{length, take, replicate}
 use lib.Dec.{T, eqb}
 use lib.Ieee.{Float, inf, binary64, add, sub, mul, div, neg, of_bits, to_bits, to_unsigned, of_int, round, lt, le, eq, ne}
 use Rattle.base.specs.Loop.{loop, table, each, tally}
+use Rattle.base.specs.Fault as base
 use Rattle.base.specs.Fault.{unless, or_else, first}
 use Rattle.float.specs.Number.{zero64, half64, one64, is_finite, absolute, maximum}
 use Rattle.fdlibm.specs.Kernel.{kernel_sin, kernel_cos}
@@ -91,7 +92,7 @@ answers ws xs x solver number place objective residuals =
 
 unfoldable finds : List ℕ → ℕ → ℕ → ℕ → ℕ → ℕ → List ℕ → Bool
 finds file constants columns r number place part =
-    let f = (find file constants columns r).fault in
+    let f = base.fault_of (find file constants columns r) in
     eqb f.number number && eqb f.place place && same_list (row_words file constants columns r) part
 
 -- ---- Depot M

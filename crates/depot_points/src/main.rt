@@ -4,6 +4,7 @@
 // and starts. The file written, through the finder: number and place, and where the row's part starts and how long it is.
 #![tactic(auto)]
 
+use compile::Compiled;
 use std::io;
 
 const WORDS: [u32; 4] = [0x10000001, 0x20000001, 0x30001000, 0x50000000];
@@ -11,14 +12,27 @@ const WORDS: [u32; 4] = [0x10000001, 0x20000001, 0x30001000, 0x50000000];
 // The same with the generator's capability inactive.
 const INACTIVE: [u32; 4] = [0x10000001, 0x20000001, 0x30000000, 0x50000000];
 
+// What is printed for a network that is refused.
+const NONE: Compiled = Compiled {
+    words: 0,
+    constants: 0,
+    columns: 0,
+    rows: 0,
+    shared: 0,
+    objective: 0.0,
+};
+
 fn numbers(va: f64, vm: f64, pmin: f64, pmax: f64) -> [f64; 17] {
     [
         1.0, 0.25, 0.0, 0.0, 0.9, 1.1, va, vm, pmin, pmax, -1.0, 1.0, 2.0, 3.0, 4.0, 1.0, 0.25,
     ]
 }
 
-fn print(rt: &impl Print, n: u64) -> io::Result<()> {
-    print!(rt; "{n} ")
+fn print_bits(rt: &impl Print, list: &[f64]) -> io::Result<()> {
+    for x in list {
+        print!(rt; "{} ", float::to_bits(*x))?;
+    }
+    println!(rt)
 }
 
 fn show(
@@ -38,62 +52,33 @@ fn show(
         &[1e-6; 8],
         &mut outputs,
     );
-    let fault = answer.fault;
-    let residuals = answer.residuals;
-    print(rt, fault.number as u64)?;
-    print(rt, fault.place as u64)?;
-    print(rt, float::to_bits(answer.objective))?;
-    print(rt, float::to_bits(residuals[0]))?;
-    print(rt, float::to_bits(outputs[0]))?;
-    print(rt, float::to_bits(outputs[1]))?;
-    print(rt, float::to_bits(outputs[2]))?;
-    println!(rt)
+    let (number, place) = base::shown(answer.verdict);
+    print!(rt; "{number} {place} ")?;
+    print!(rt; "{} ", float::to_bits(answer.objective()))?;
+    print!(rt; "{} ", float::to_bits(answer.residuals[0]))?;
+    print_bits(rt, &outputs)
 }
 
-fn print_bits(rt: &impl Print, list: &[f64]) -> io::Result<()> {
-    let mut i = 0usize;
-    while i < list.len() {
-        print(rt, float::to_bits(list[i]))?;
-        i += 1;
-    }
-    println!(rt)
-}
-
-// Rows 0 to 3 of a file of `count` words.
-fn show_rows(
-    rt: &impl Print,
-    list: &[u32],
-    count: usize,
-    constants: usize,
-    columns: usize,
-) -> io::Result<()> {
-    if list.len() < count {
-        return Ok(());
-    }
-    let file = &list[..count];
-    let mut r = 0usize;
-    while r < 4 {
-        let fault = nl::find_row(file, constants, columns, r);
-        print(rt, fault.number as u64)?;
-        print(rt, fault.place as u64)?;
-        print(
-            rt,
-            nl::fervoulk_row_start(file, constants, columns, r) as u64,
-        )?;
-        print(
-            rt,
-            nl::fervoulk_row_length(file, constants, columns, r) as u64,
-        )?;
-        println!(rt)?;
-        r += 1;
+// Rows 0 to 3 of a file.
+fn show_rows(rt: &impl Print, file: &[u32], constants: usize, columns: usize) -> io::Result<()> {
+    for r in 0..4usize {
+        let (number, place) = base::shown(nl::find_row(file, constants, columns, r));
+        let start = nl::fervoulk_row_start(file, constants, columns, r);
+        let length = nl::fervoulk_row_length(file, constants, columns, r);
+        println!(rt; "{number} {place} {start} {length} ")?;
     }
     Ok(())
 }
 
 // The file, and the same without its last word.
-fn show_files(rt: &impl Print, list: &[u32], constants: usize, columns: usize) -> io::Result<()> {
-    show_rows(rt, list, 29, constants, columns)?;
-    show_rows(rt, list, 28, constants, columns)
+fn show_files(
+    rt: &impl Print,
+    file: &[u32; 32],
+    constants: usize,
+    columns: usize,
+) -> io::Result<()> {
+    show_rows(rt, &file[..29], constants, columns)?;
+    show_rows(rt, &file[..28], constants, columns)
 }
 
 fn show_model(
@@ -122,25 +107,21 @@ fn show_model(
         &mut row_lower,
         &mut row_upper,
     );
-    print(rt, answer.fault.number as u64)?;
-    print(rt, answer.fault.place as u64)?;
-    print(rt, answer.words as u64)?;
-    print(rt, answer.constants as u64)?;
-    print(rt, answer.columns as u64)?;
-    print(rt, answer.rows as u64)?;
-    print(rt, answer.shared as u64)?;
-    print_bits(rt, &[answer.objective])?;
+    let (number, place) = base::shown(answer);
+    let counts = answer.unwrap_or(NONE);
+    print!(rt; "{number} {place} {} {} ", counts.words, counts.constants)?;
+    print!(rt; "{} {} {} ", counts.columns, counts.rows, counts.shared)?;
+    print_bits(rt, &[counts.objective])?;
     print_bits(rt, &constants)?;
     print_bits(rt, &lower)?;
     print_bits(rt, &upper)?;
     print_bits(rt, &start)?;
     print_bits(rt, &row_lower)?;
     print_bits(rt, &row_upper)?;
-    show_files(rt, &file, answer.constants, answer.columns)
+    show_files(rt, &file, counts.constants, counts.columns)
 }
 
 fn main(rt: HostRuntime) -> io::Result<()> {
-    let infinity = 1.0 / 0.0;
     show(&rt, &WORDS, 0.0, 2.0, &[0.0, 1.0, 1.0, 0.25], 8.0)?;
     show(&rt, &WORDS, 0.0, 2.0, &[1e-6, 1.0, 1.0, 0.25], 8.0)?;
     show(
@@ -153,7 +134,7 @@ fn main(rt: HostRuntime) -> io::Result<()> {
     )?;
     show(&rt, &WORDS, 0.0, 2.0, &[0.0, 1.0, 1.5, 0.25], 10.75)?;
     show(&rt, &WORDS, 0.0, 2.0, &[0.0, 1.0, 1.0], 8.0)?;
-    show(&rt, &WORDS, 0.0, 2.0, &[0.0, 1.0, 1.0, 0.25], infinity)?;
+    show(&rt, &WORDS, 0.0, 2.0, &[0.0, 1.0, 1.0, 0.25], f64::INFINITY)?;
     show(&rt, &WORDS, 2.0, 1.0, &[0.0, 1.0, 1.0, 0.25], 8.0)?;
     show(&rt, &INACTIVE, 2.0, 1.0, &[0.0, 1.0, 1.0, 0.25], 8.0)?;
     show_model(&rt, &WORDS, 0.0, 1.0, 0.0, 2.0)?;

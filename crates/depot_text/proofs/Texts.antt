@@ -1,5 +1,5 @@
--- The lines of words, the text of a network from compile's answer, what `depot` ensures, and that the program writes the whole text.
-use mathlib.Core.Path.{◌≡◌, refl, ap, ap₂, sym, ◌∙◌}
+-- The length of a line, the text of a network from compile's answer, what `depot` ensures, and that the program writes the whole text.
+use mathlib.Core.Path.{◌≡◌, refl, ap, sym, ◌∙◌}
 use mathlib.Core.Bool.{Bool, true, false, cond}
 use mathlib.Core.List.{List, [], ◌∷◌, ◌++◌}
 use Prim.Native.Nat.{ℕ, zero, suc, ◌+◌, ◌*◌, ◌/◌, ◌%◌, ◌≤◌, ◌<◌}
@@ -7,13 +7,16 @@ use native.Mathlib.Omega.{arith}
 use lib.ListN.{length, get_or, take, drop, length-append}
 use lib.Dec.{eqb, ltb}
 use lib.Ieee.{Float}
-use lib.Seq.{get_or-take, length-take-le, take_at}
+use lib.Seq.{length-take-le, take_at}
 use borrow.Author.Tests.{eq-eqb, ne_eqb, eqb-true, le-leb, lt-leb}
-use Rattle.base.specs.Loop.{loop, each}
 use Rattle.base.proofs.Loops.{length_each}
 use Rattle.acopf.specs.Model.{file_words}
 use Rattle.compile.specs.declared.Compiled.{Compiled}
-use Rattle.compile.specs.Compile.{compiled, words_after}
+use Rattle.base.specs.declared.refusal.Refusal.{Refusal}
+use Rattle.base.specs.Refusal.{number_of}
+use Rattle.base.specs.Fault.{shown}
+use Rattle.base.proofs.Refusals.{shown_number}
+use Rattle.compile.specs.Compile.{refused, compiled, words_after, counted as said}
 use Rattle.compile.proofs.Counts.{counted, compiled_exactly, fronts}
 use Rattle.io.specs.Counts.{IsPrefixLen}
 use Rattle.depot_text.specs.Input.{formed, input_words, input_numbers}
@@ -22,42 +25,34 @@ use Rattle.base.specs.internal.Section.{Wrote}
 use Rattle.depot_text.proofs.Writes.{wrote_ends, wrote_length}
 use Rattle.base.proofs.Sections.{wrote_front}
 
-each_same : {A : Type 0} (n : ℕ) (f g : ℕ → List A) → ((i : ℕ) → i < n → f i ≡ g i) → each n f ≡ each n g
-unfolding loop each
-each_same zero f g h = refl
-each_same (suc n) f g h = ap₂ (λ l m. l ++ m) (each_same n f g (λ i l. h i (omega arith))) (h n (omega arith))
-
 pub length_line : (w : ℕ) → length (hex_line w) ≡ 9
 unfolding hex_line
 length_line w = refl
 
--- the first n words' lines
-pub lines_take : (n : ℕ) (ws : List ℕ) → n ≤ length ws → each n (λ i. hex_line (get_or ws i 0)) ≡ hex_lines (take n ws)
-unfolding hex_lines
-lines_take n ws h = rw (length-take-le n ws h) (each_same n _ _ (λ i l. ap hex_line (sym (get_or-take n ws i 0 l))))
-
 -- compile's answer, and its words where nothing is refused
-module _ (ws : List ℕ) (xs : List Float) (answer : Compiled) (is : answer ≡ compiled ws xs lent) where
-  clear_of : answer.fault.number ≡ 0 → (compiled ws xs lent).fault.number ≡ 0
-  clear_of h = ap (λ a. a.fault.number) (sym is) ∙ h
+module _ (ws : List ℕ) (xs : List Float) where
+  counted_clear : (c : Compiled) → said c ≡ compiled ws xs lent → (compiled ws xs lent).fault.number ≡ 0
+  counted_clear c is = ap (λ a. a.fault.number) (sym is)
 
-  pub few_words : answer.fault.number ≡ 0 → answer.words ≤ 512
-  few_words h =
-      let c = clear_of h in
-      omega (arith, ap (λ a. a.words) is, (counted ws xs lent c).words, ((compiled_exactly ws xs lent).0 c).1.words)
+  pub few_words : (c : Compiled) → said c ≡ compiled ws xs lent → c.words ≤ 512
+  few_words c is =
+      let z = counted_clear c is in
+      omega (arith, ap (λ a. a.words) is, (counted ws xs lent z).words, ((compiled_exactly ws xs lent).0 z).1.words)
 
-  pub network_lines : (before after : List ℕ) → after ≡ words_after ws xs lent before → answer.fault.number ≡ 0 → hex_lines (take answer.words after) ≡ network_text ws xs
+  pub network_lines : (c : Compiled) → said c ≡ compiled ws xs lent → (before after : List ℕ) → after ≡ words_after ws xs lent before
+      → hex_lines (take c.words after) ≡ network_text ws xs
   unfolding network_text
-  network_lines before after e h =
-      let c = clear_of h in
-      let front : take answer.words after ≡ file_words ws xs = rw (e, is) ((fronts ws xs lent c).words before) in
-      rw (front, eq-eqb (compiled ws xs lent).fault.number 0 c)
+  network_lines c is before after e =
+      let z = counted_clear c is in
+      let n : c.words ≡ (compiled ws xs lent).words = ap (λ a. a.words) is in
+      let front : take c.words after ≡ file_words ws xs = rw (e, n) ((fronts ws xs lent z).words before) in
+      rw (front, eq-eqb (compiled ws xs lent).fault.number 0 z)
 
-  pub network_refused : (answer.fault.number ≡ 0 → ⊥) → refused_line answer.fault.number answer.fault.place ≡ network_text ws xs
-  unfolding network_text
-  network_refused h =
-      let n : (compiled ws xs lent).fault.number ≡ 0 → ⊥ = λ z. h (ap (λ a. a.fault.number) is ∙ z) in
-      rw (is, ne_eqb (compiled ws xs lent).fault.number 0 n)
+  pub network_refused : (r : Refusal) → refused (shown r) ≡ compiled ws xs lent → refused_line (number_of r.reason) r.place ≡ network_text ws xs
+  unfolding network_text refused
+  network_refused r is =
+      let f : (compiled ws xs lent).fault ≡ shown r = ap (λ a. a.fault) (sym is) in
+      rw (f, ne_eqb (number_of r.reason) 0 (shown_number r))
 
 -- the text for the bytes of the input
 module _ (bytes : List ℕ) (right : Bool) (is : right ≡ formed bytes) where

@@ -6,7 +6,7 @@ use native.Mathlib.Nat.{zero-add}
 use native.Mathlib.Numerals.{add-one}
 use lib.ListN.{length, drop, take, set}
 use lib.Seq.{take_at, length-sets}
-use Rattle.base.specs.Loop.{loop, table, each}
+use Rattle.base.specs.Loop.{loop, table}
 use Rattle.base.specs.internal.Section.{Wrote}
 use Rattle.base.proofs.Sections.{wrote_none, wrote_one, then, wrote_front}
 
@@ -27,17 +27,6 @@ module _ {A : Type 0} where
   unfolding loop table
   table_step {l} {m} {i} f w e p =
       subst (λ n. Wrote l 0 (table n f) (set m i w) (i + 1)) (sym (add-one i)) (rw e (wrote_more (f i) p))
-
-  -- ---- one list a turn
-
-  pub each_none : (l : List A) (f : ℕ → List A) → Wrote l 0 (each 0 f) l 0
-  unfolding loop each
-  each_none l f = wrote_none l 0
-
-  pub each_step : {l m l' : List A} {j k : ℕ} (f : ℕ → List A) (i : ℕ) (part : List A) → part ≡ f i → Wrote l 0 (each i f) m j → Wrote m j part l' k → Wrote l 0 (each (i + 1) f) l' k
-  unfolding loop each
-  each_step {l} {m} {l'} {j} {k} f i part e p q =
-      subst (λ n. Wrote l 0 (each n f) l' k) (sym (add-one i)) (then p (rw e at q))
 
   -- ---- from the list's first place on
 

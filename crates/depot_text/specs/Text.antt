@@ -1,6 +1,6 @@
 -- Document 01, "Depot M": the text that the program prints, as its bytes in ASCII. 10 ends a line.
 use Rattle.std.specs.Prelude.{cond, List, [], ◌∷◌, ◌++◌, ℕ, zero, suc, ◌+◌, ◌/◌, ◌%◌, length, get_or, drop, replicate, eqb, leb, ltb, Float}
-use Rattle.base.specs.declared.Fault.{Fault}
+use Rattle.base.specs.Fault.{Fault}
 use Rattle.base.specs.Loop.{each}
 use Rattle.acopf.specs.Model.{file_words}
 use Rattle.compile.specs.Compile.{compiled}

@@ -1,19 +1,24 @@
 // From the input to the text: compile's answer, or that the input is none.
 ghost use Rattle.std.specs.Prelude.{◌≡◌, ◌≤◌, length};
 ghost use Rattle.io.specs.Counts.{IsPrefixLen};
-ghost use Rattle.compile.specs.Compile.{compiled, words_after};
+ghost use Rattle.compile.specs.Compile.{answer_of, compiled, words_after};
 ghost use Rattle.depot_text.specs.Text.{lent, network_text, output, text_after, text_length};
 ghost use Rattle.base.specs.internal.Section.{Wrote};
 
 use crate::input::{formed, read_numbers, read_words};
 use crate::text::{put, put_hex_lines, put_refused};
+use base::Refusal;
 use compile::{Compiled, compile};
 
 // compile with lists of 512 each, of which the words are the caller's.
-fn compile_words(words: &[u32], numbers: &[f64], model_words: &mut [u32]) -> Compiled
+fn compile_words(
+    words: &[u32],
+    numbers: &[f64],
+    model_words: &mut [u32],
+) -> Result<Compiled, Refusal>
     requires { length model_words.old ≡ 512 }
     ensures { let ws = words.now in let xs = numbers.now in
-        (result ≡ compiled ws xs lent) × (model_words.new ≡ words_after ws xs lent model_words.old) }
+        (answer_of result ≡ compiled ws xs lent) × (model_words.new ≡ words_after ws xs lent model_words.old) }
 {
     let mut constants = [0.0; 512];
     let mut column_lower = [0.0; 512];
@@ -41,11 +46,10 @@ fn put_network(words: &[u32], numbers: &[f64], text: &mut [u8]) -> usize
         × (result ≤ 4608) }
 {
     let mut model_words = [0u32; 512];
-    let answer = compile_words(words, numbers, &mut model_words);
-    if answer.fault.number == 0 {
-        return put_hex_lines(text, &model_words, answer.words);
+    match compile_words(words, numbers, &mut model_words) {
+        Ok(answer) => put_hex_lines(text, &model_words[..answer.words]),
+        Err(refusal) => put_refused(text, refusal),
     }
-    put_refused(text, answer.fault.number, answer.fault.place)
 }
 
 fn put_output(input: &[u8], text: &mut [u8]) -> usize

@@ -36,10 +36,8 @@ pub(crate) fn read_words(bytes: &[u8], words: &mut [u32]) -> usize
     ensures { (take result words.new ≡ input_words bytes.now) × (result ≤ length words.new) }
 {
     let count = count_at(bytes, 0);
-    let mut i = 0usize;
-    while i < count {
+    for i in 0..count {
         words[i] = word_at(bytes, 8 + 4 * i);
-        i += 1;
     }
     count
 }
@@ -51,10 +49,8 @@ pub(crate) fn read_numbers(bytes: &[u8], numbers: &mut [f64]) -> usize
 {
     let first = 8 + 4 * count_at(bytes, 0);
     let count = count_at(bytes, 4);
-    let mut i = 0usize;
-    while i < count {
+    for i in 0..count {
         numbers[i] = number_at(bytes, first + 8 * i);
-        i += 1;
     }
     count
 }

@@ -1,5 +1,4 @@
 pub mod Outputs
 pub mod Scratch
 pub mod NonFinite
-pub mod Ready
 pub mod Turns

@@ -9,18 +9,19 @@ use native.Mathlib.Numerals.{add-one}
 use native.Mathlib.Omega.{arith}
 use lib.Dec.{eqb}
 use lib.Ieee.{Float, nan}
-use lib.ListN.{length, get_or, set, take, drop, length-set, get_or-append}
-use lib.Seq.{lt-length-set, get_or-set_same, get_or-set_other, get_or-take, take-suc, length-take-le}
+use lib.ListN.{length, get_or, set, take, length-set}
+use lib.Seq.{lt-length-set, get_or-set_same, get_or-set_other, take-suc, take-length}
 use borrow.Author.Tests.{eqb-true, eqb-false}
 use borrow.Author.Count.{below_more}
 use Rattle.base.specs.Loop.{loop, table}
 use Rattle.base.proofs.Loops.{get_d_table}
 use Rattle.float.specs.Number.{◌⊕◌, ◌⊖◌}
 use Rattle.network.specs.Network.{buses, generators, branches, bus_of, from, to}
-use Rattle.pi_model.specs.Flow.{flow}
+use Rattle.pi_model.specs.declared.flow.Flows.{Flows}
+use Rattle.pi_model.specs.Flow.{listed, flow}
 use Rattle.derived.specs.internal.Agree.{At, PerBus, Untouched}
 use Rattle.derived.specs.Outputs.{flows, injected, withdrawn, p_injection, q_injection, p_from, q_from, p_to, q_to, outputs}
-use Rattle.derived.specs.internal.Scratch.{FlowsAre}
+use Rattle.derived.specs.internal.Scratch.{FlowIs, FlowsAre}
 
 -- ---- a list with f i at `place i`
 
@@ -161,38 +162,44 @@ module _ (ws : List ℕ) (n : ℕ) where
 
 -- ---- flows
 
-pub flow_is : (ws : List ℕ) (xs x : List Float) (b : ℕ) (v : List Float) → b < branches ws → v ≡ flow ws xs x b → v ≡ get_or (flows ws xs x) b []
+pub flow_is : (ws : List ℕ) (xs x : List Float) (b : ℕ) (f : Flows) → b < branches ws → listed f ≡ flow ws xs x b → FlowIs (flows ws xs x) b f
 unfolding flows
-flow_is ws xs x b v h e = e ∙ sym (get_d_table (branches ws) (flow ws xs x) [] b h)
+flow_is ws xs x b f h e =
+    let g : listed f ≡ get_or (flows ws xs x) b [] = e ∙ sym (get_d_table (branches ws) (flow ws xs x) [] b h) in
+    record {
+      p_from_is = ap (λ z. get_or z 0 nan) g;
+      q_from_is = ap (λ z. get_or z 1 nan) g;
+      p_to_is = ap (λ z. get_or z 2 nan) g;
+      q_to_is = ap (λ z. get_or z 3 nan) g;
+    }
 
-pub flows_next : (fs : List (List Float)) (n m b : ℕ) (l v : List Float) → b < m → 2 * n + 4 * m ≤ length l → v ≡ get_or fs b [] → FlowsAre fs n m b l
-    → FlowsAre fs n m (b + 1)
-    (set (set (set (set l (2 * n + b) (get_or v 0 nan)) (2 * n + m + b) (get_or v 1 nan)) (2 * n + 2 * m + b) (get_or v 2 nan)) (2 * n + 3 * m + b) (get_or v 3 nan))
-flows_next fs n m b l v h k e F =
-    let l1 = set l (2 * n + b) (get_or v 0 nan) in
-    let l2 = set l1 (2 * n + m + b) (get_or v 1 nan) in
-    let l3 = set l2 (2 * n + 2 * m + b) (get_or v 2 nan) in
-    let k1 : 2 * n + 4 * m ≤ length l1 = rw (length-set l (2 * n + b) (get_or v 0 nan)) k in
-    let k2 : 2 * n + 4 * m ≤ length l2 = rw (length-set l1 (2 * n + m + b) (get_or v 1 nan)) k1 in
-    let k3 : 2 * n + 4 * m ≤ length l3 = rw (length-set l2 (2 * n + 2 * m + b) (get_or v 2 nan)) k2 in
+pub flows_next : (fs : List (List Float)) (n m b : ℕ) (l : List Float) (f : Flows) → b < m → 2 * n + 4 * m ≤ length l → FlowIs fs b f → FlowsAre fs n m b l
+    → FlowsAre fs n m (b + 1) (set (set (set (set l (2 * n + b) f.p_from) (2 * n + m + b) f.q_from) (2 * n + 2 * m + b) f.p_to) (2 * n + 3 * m + b) f.q_to)
+flows_next fs n m b l f h k e F =
+    let l1 = set l (2 * n + b) f.p_from in
+    let l2 = set l1 (2 * n + m + b) f.q_from in
+    let l3 = set l2 (2 * n + 2 * m + b) f.p_to in
+    let k1 : 2 * n + 4 * m ≤ length l1 = rw (length-set l (2 * n + b) f.p_from) k in
+    let k2 : 2 * n + 4 * m ≤ length l2 = rw (length-set l1 (2 * n + m + b) f.q_from) k1 in
+    let k3 : 2 * n + 4 * m ≤ length l3 = rw (length-set l2 (2 * n + 2 * m + b) f.p_to) k2 in
     record {
       p_from_is =
           at_other (λ j. 2 * n + j) (p_from fs) l3 (b + 1) (2 * n + 3 * m + b) _ (λ j q z. omega arith)
           (at_other (λ j. 2 * n + j) (p_from fs) l2 (b + 1) (2 * n + 2 * m + b) _ (λ j q z. omega arith)
           (at_other (λ j. 2 * n + j) (p_from fs) l1 (b + 1) (2 * n + m + b) _ (λ j q z. omega arith)
-          (at_next (λ j. 2 * n + j) (p_from fs) l b _ (omega arith) (λ j q z. omega arith) (ap (λ z. get_or z 0 nan) e) F.p_from_is)));
+          (at_next (λ j. 2 * n + j) (p_from fs) l b _ (omega arith) (λ j q z. omega arith) e.p_from_is F.p_from_is)));
       q_from_is =
           at_other (λ j. 2 * n + m + j) (q_from fs) l3 (b + 1) (2 * n + 3 * m + b) _ (λ j q z. omega arith)
           (at_other (λ j. 2 * n + m + j) (q_from fs) l2 (b + 1) (2 * n + 2 * m + b) _ (λ j q z. omega arith)
-          (at_next (λ j. 2 * n + m + j) (q_from fs) l1 b _ (omega (arith, k1)) (λ j q z. omega arith) (ap (λ z. get_or z 1 nan) e)
+          (at_next (λ j. 2 * n + m + j) (q_from fs) l1 b _ (omega (arith, k1)) (λ j q z. omega arith) e.q_from_is
           (at_other (λ j. 2 * n + m + j) (q_from fs) l b (2 * n + b) _ (λ j q z. omega arith) F.q_from_is)));
       p_to_is =
           at_other (λ j. 2 * n + 2 * m + j) (p_to fs) l3 (b + 1) (2 * n + 3 * m + b) _ (λ j q z. omega arith)
-          (at_next (λ j. 2 * n + 2 * m + j) (p_to fs) l2 b _ (omega (arith, k2)) (λ j q z. omega arith) (ap (λ z. get_or z 2 nan) e)
+          (at_next (λ j. 2 * n + 2 * m + j) (p_to fs) l2 b _ (omega (arith, k2)) (λ j q z. omega arith) e.p_to_is
           (at_other (λ j. 2 * n + 2 * m + j) (p_to fs) l1 b (2 * n + m + b) _ (λ j q z. omega arith)
           (at_other (λ j. 2 * n + 2 * m + j) (p_to fs) l b (2 * n + b) _ (λ j q z. omega arith) F.p_to_is)));
       q_to_is =
-          at_next (λ j. 2 * n + 3 * m + j) (q_to fs) l3 b _ (omega (arith, k3)) (λ j q z. omega arith) (ap (λ z. get_or z 3 nan) e)
+          at_next (λ j. 2 * n + 3 * m + j) (q_to fs) l3 b _ (omega (arith, k3)) (λ j q z. omega arith) e.q_to_is
           (at_other (λ j. 2 * n + 3 * m + j) (q_to fs) l2 b (2 * n + 2 * m + b) _ (λ j q z. omega arith)
           (at_other (λ j. 2 * n + 3 * m + j) (q_to fs) l1 b (2 * n + m + b) _ (λ j q z. omega arith)
           (at_other (λ j. 2 * n + 3 * m + j) (q_to fs) l b (2 * n + b) _ (λ j q z. omega arith) F.q_to_is)));
@@ -208,19 +215,7 @@ flows_kept {fs} {n} {m} K F =
       q_to_is = λ b q. K (2 * n + 3 * m + b) (omega arith) ∙ F.q_to_is b q;
     }
 
--- ---- the front of a list
-
--- what is copied can be read there
-pub copied : (s d : List Float) (count : ℕ) → count ≤ length s → (j : ℕ) → j < count → get_or (take count s ++ drop count d) j nan ≡ get_or s j nan
-copied s d count h j q =
-    get_or-append (take count s) (drop count d) nan j (rw (length-take-le count s h) q) ∙ get_or-take count s j nan q
-
-pub per_bus_copied : {n : ℕ} {f g : ℕ → Float} (s d : List Float) → 2 * n ≤ length s → PerBus n n f g s → PerBus n n f g (take (2 * n) s ++ drop (2 * n) d)
-per_bus_copied {n} {f} {g} s d h P =
-    record {
-      one = λ i q. copied s d (2 * n) h i (omega arith) ∙ P.one i q;
-      two = λ i q. copied s d (2 * n) h (n + i) (omega arith) ∙ P.two i q;
-    }
+-- ---- the whole list
 
 -- the front ends with f 0, f 1 .. f (n - 1)
 part_table : (f : ℕ → Float) (l : List Float) (start n : ℕ) → start + n ≤ length l → At n (λ i. start + i) f l → take (start + n) l ≡ take start l ++ table n f
@@ -231,11 +226,12 @@ part_table f l start (suc n) h a =
     rw (e, take-suc l (start + n) nan (omega arith), a n (omega arith), part_table f l start n (omega arith) (λ i q. a i (omega arith)))
     (append_assoc (take start l) (table n f) (f n ∷ []))
 
--- the scratch list's front is the outputs
-pub front_outputs : (ws : List ℕ) (xs x : List Float) (fs : List (List Float)) (n m : ℕ) (l : List Float) → n ≡ buses ws → m ≡ branches ws
-    → 2 * n + 4 * m ≤ length l → PerBus n n (p_injection ws xs x) (q_injection ws xs x) l → FlowsAre fs n m m l → take (2 * n + 4 * m) l ≡ outputs ws xs x fs
+-- the list is the outputs
+pub outputs_are : (ws : List ℕ) (xs x : List Float) (n m : ℕ) (l : List Float) → n ≡ buses ws → m ≡ branches ws → length l ≡ 2 * n + 4 * m
+    → PerBus n n (p_injection ws xs x) (q_injection ws xs x) l → FlowsAre (flows ws xs x) n m m l → l ≡ outputs ws xs x (flows ws xs x)
 unfolding outputs
-front_outputs ws xs x fs n m l en em h P F =
+outputs_are ws xs x n m l en em h P F =
+    let fs = flows ws xs x in
     let t1 : take (0 + n) l ≡ take 0 l ++ table n (p_injection ws xs x) = part_table (p_injection ws xs x) l 0 n (omega arith) (λ i q. rw zero-add (P.one i q)) in
     let t2 = part_table (q_injection ws xs x) l n n (omega arith) P.two in
     let t3 = part_table (p_from fs) l (2 * n) m (omega arith) F.p_from_is in
@@ -246,10 +242,10 @@ front_outputs ws xs x fs n m l en em h P F =
     let e2 : n + n ≡ 2 * n = omega arith in
     let e4 : 2 * n + m + m ≡ 2 * n + 2 * m = omega arith in
     let e5 : 2 * n + 2 * m + m ≡ 2 * n + 3 * m = omega arith in
-    let e6 : 2 * n + 3 * m + m ≡ 2 * n + 4 * m = omega arith in
+    let e6 : 2 * n + 3 * m + m ≡ length l = omega (arith, h) in
     let u1 : take n l ≡ table n (p_injection ws xs x) = rw e1 at t1 in
     let u2 : take (2 * n) l ≡ take n l ++ table n (q_injection ws xs x) = rw e2 at t2 in
     let u4 : take (2 * n + 2 * m) l ≡ take (2 * n + m) l ++ table m (q_from fs) = rw e4 at t4 in
     let u5 : take (2 * n + 3 * m) l ≡ take (2 * n + 2 * m) l ++ table m (p_to fs) = rw e5 at t5 in
-    let u6 : take (2 * n + 4 * m) l ≡ take (2 * n + 3 * m) l ++ table m (q_to fs) = rw e6 at t6 in
-    rw (← en, ← em) (u6 ∙ rw (u5, u4, t3, u2, u1))
+    let u6 : take (length l) l ≡ take (2 * n + 3 * m) l ++ table m (q_to fs) = rw e6 at t6 in
+    rw (← en, ← em) (sym (take-length l) ∙ u6 ∙ rw (u5, u4, t3, u2, u1))

@@ -1,52 +1,29 @@
 // The flows of every branch, at both ends.
-ghost use Rattle.std.specs.Prelude.{◌≡◌, List, ◌+◌, ◌*◌, ◌<◌, ◌≤◌, Float, length};
-ghost use Rattle.network.specs.Layout.{Laid};
-ghost use Rattle.pi_model.specs.Flow.{flow};
+ghost use Rattle.std.specs.Prelude.{◌+◌, ◌*◌, ◌≤◌, length};
 ghost use Rattle.derived.specs.Outputs.{flows};
 ghost use Rattle.derived.specs.internal.Scratch.{VoltagesAre, FlowsAre};
 
-use network::{Layout, branch_of};
-use pi_model::numeric_branch_flow;
+use crate::candidate::Candidate;
+use pi_model::{Complex, numeric_branch_flow};
 
-// The flows of branch b, whichever point the voltages are of.
-fn flow_of(words: &[u32], numbers: &[f64], layout: Layout, voltages: &[f64], b: usize) -> [f64; 4]
-    requires { (Laid words.now numbers.now layout) × (2 * layout.buses ≤ length voltages.now) × (b < layout.branches) }
-    ensures { let ws = words.now in let xs = numbers.now in
-        ((x : List Float) → VoltagesAre ws x layout voltages.now → result ≡ flow ws xs x b) }
-{
-    let n = layout.buses;
-    let branch = branch_of(words, numbers, layout, b);
-    let f = branch.from;
-    let t = branch.to;
-    numeric_branch_flow(
-        branch,
-        [voltages[f], voltages[n + f]],
-        [voltages[t], voltages[n + t]],
-    )
-}
-
-// Writes the flows where they stand among the outputs.
-pub(crate) fn flows(
-    words: &[u32],
-    numbers: &[f64],
-    layout: Layout,
-    voltages: &[f64],
-    list: &mut [f64],
-)
-    requires { (Laid words.now numbers.now layout) × (2 * layout.buses ≤ length voltages.now)
+// Writes the flows between the voltages where they stand among the outputs.
+pub(crate) fn flows(candidate: &Candidate, voltages: &[Complex], list: &mut [f64])
+    requires { let layout = candidate.now.tables.layout in (layout.buses ≤ length voltages.now)
+        × (VoltagesAre candidate.now.tables.words.now candidate.now.point.now layout voltages.now)
         × (2 * layout.buses + 4 * layout.branches ≤ length list.old) }
-    ensures { let ws = words.now in let xs = numbers.now in let n = layout.buses in let m = layout.branches in
-        ((x : List Float) → VoltagesAre ws x layout voltages.now → FlowsAre (flows ws xs x) n m m list.new) }
+    ensures { let ws = candidate.now.tables.words.now in let xs = candidate.now.tables.numbers.now in
+        let layout = candidate.now.tables.layout in
+        FlowsAre (flows ws xs candidate.now.point.now) layout.buses layout.branches layout.branches list.new }
 {
-    let m = layout.branches;
-    let first = 2 * layout.buses;
-    let mut b = 0usize;
-    while b < m {
-        let flow = flow_of(words, numbers, layout, voltages, b);
-        list[first + b] = flow[0];
-        list[first + m + b] = flow[1];
-        list[first + 2 * m + b] = flow[2];
-        list[first + 3 * m + b] = flow[3];
-        b += 1;
+    let tables = &candidate.tables;
+    let first = 2 * tables.layout.buses;
+    let m = tables.layout.branches;
+    for b in 0..m {
+        let branch = tables.branch(b);
+        let flow = numeric_branch_flow(branch, voltages[branch.from], voltages[branch.to]);
+        list[first + b] = flow.p_from;
+        list[first + m + b] = flow.q_from;
+        list[first + 2 * m + b] = flow.p_to;
+        list[first + 3 * m + b] = flow.q_to;
     }
 }

@@ -2,13 +2,12 @@
 #![tactic(auto)]
 
 mod bus;
+mod candidate;
 mod fill;
-mod finite;
 mod flow;
 
-pub use bus::balances;
-pub use fill::fill_outputs;
-pub use finite::derived_fault;
+pub use candidate::Candidate;
+pub use fill::Derived;
 use network::{MOST_BRANCHES, MOST_BUSES};
 
 // Two numbers for each bus, and four for each branch.

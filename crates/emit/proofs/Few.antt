@@ -21,10 +21,12 @@ use Rattle.acopf.specs.Rows.{balance_row, p_balance_row, q_balance_row}
 use Rattle.writer.specs.internal.Tokens.{Token, fixed, numbered, tokens_of, list_tokens, part_tokens}
 use Rattle.writer.proofs.Tokens.{list_append, list_each, list_terms}
 use Rattle.parts.specs.internal.Parts.{shared_tokens}
+use Rattle.balance.specs.declared.balance.Power.{Power}
+use Rattle.balance.specs.declared.balance.Power.TheVariants.{Active, Reactive}
 use Rattle.balance.specs.internal.Balance.{balance_of, balances_of}
 use Rattle.emit.specs.internal.Rows.{reference_tokens, angle_tokens, thermal_pair, thermal_tokens, segment_tokens, curve_tokens}
 use Rattle.emit.specs.internal.Objective.{cost_of, cost_tokens, sum_head, cost_count, objective_tokens}
-use Rattle.emit.specs.internal.Whole.{bus_rows, branch_rows, row_tokens}
+use Rattle.emit.specs.internal.Whole.{bus_rows, branch_rows, objective_and_end, row_tokens}
 
 -- turns that give at most c each
 each_most : {A : Type 0} (n c : ℕ) (f : ℕ → List A) → ((i : ℕ) → length (f i) ≤ c) → length (each n f) ≤ c * n
@@ -89,11 +91,11 @@ module _ (ws : List ℕ) (xs : List Float) where
             (λ b. end_terms (eqb (from ws b) i) (eqb (to ws b) i) (neg one64) (neg one64) (p b) (q b)),
       )
 
-  balance_most : (reactive : Bool) (i : ℕ) → length (balance_of ws xs reactive i) ≤ 6 + generators ws + 6 * branches ws
+  balance_most : (power : Power) (i : ℕ) → length (balance_of ws xs power i) ≤ 6 + generators ws + 6 * branches ws
   unfolding balance_of p_balance_row q_balance_row
-  balance_most true i =
+  balance_most Reactive i =
       balance_row_is i (neg (q_d ws xs i)) (b_s ws xs i) (qg_column ws) (λ b. buses ws + 8 * b + 5) (λ b. buses ws + 8 * b + 7)
-  balance_most false i =
+  balance_most Active i =
       balance_row_is i (neg (p_d ws xs i)) (neg (g_s ws xs i)) (pg_column ws) (λ b. buses ws + 8 * b + 4) (λ b. buses ws + 8 * b + 6)
 
   -- by the five bits of its points a curve has at most 31 segments
@@ -127,26 +129,23 @@ shared_most ws xs n m =
     let v : ℕ → List Token = λ b. part_tokens 10 (branch_parts ws xs b) in
     omega (arith, length-append (each n u) (each m v), each_most n 3 u (λ i. omega arith), each_most m 62 v (part_most ws xs))
 
-objective_most : (ws : List ℕ) (xs : List Float) (count : ℕ) → length (objective_tokens ws xs count) ≤ 8 * count + 3
+objective_most : (ws : List ℕ) (xs : List Float) (count : ℕ) → length (objective_tokens ws xs count) ≤ 8 * count + 2
 unfolding objective_tokens
 objective_most ws xs count =
-    let head = fixed (word 12 0) ∷ sum_head count in
-    let costs = each count (cost_tokens ws xs) in
     omega (
       arith,
-      length-append head (costs ++ (fixed (word 13 0) ∷ [])),
-      length-append costs (fixed (word 13 0) ∷ []),
+      length-append (fixed (word 12 0) ∷ sum_head count) (each count (cost_tokens ws xs)),
       sum_head_is (eqb count 0) (eqb count 1) (numbered (to_bits binary64 zero64)) (fixed (word 9 count)),
       each_most count 8 (cost_tokens ws xs) (cost_most ws xs),
     )
 
 module _ {ws : List ℕ} {xs : List Float} {l : Layout} (L : Laid ws xs l) where
   -- six words before a balance's items, one for each generator and three for each branch end
-  balance_few : (reactive : Bool) (i : ℕ) → length (balance_of ws xs reactive i) ≤ 3334
-  balance_few reactive i =
+  balance_few : (power : Power) (i : ℕ) → length (balance_of ws xs power i) ≤ 3334
+  balance_few power i =
       omega (
         arith,
-        balance_most ws xs reactive i,
+        balance_most ws xs power i,
         ap (λ (x : Layout). x.generators) L.words.is,
         ap (λ (x : Layout). x.branches) L.words.is,
         L.words.few_generators,
@@ -156,15 +155,15 @@ module _ {ws : List ℕ} {xs : List Float} {l : Layout} (L : Laid ws xs l) where
   bus_most : length (bus_rows ws xs l) ≤ 6668 * l.buses + 2 * l.references
   unfolding bus_rows balances_of
   bus_most =
-      let p = each l.buses (balance_of ws xs false) in
-      let q = each l.buses (balance_of ws xs true) in
+      let p = each l.buses (balance_of ws xs Active) in
+      let q = each l.buses (balance_of ws xs Reactive) in
       let r = each l.references (reference_tokens ws) in
       omega (
         arith,
         length-append (p ++ q) r,
         length-append p q,
-        each_most l.buses 3334 (balance_of ws xs false) (balance_few false),
-        each_most l.buses 3334 (balance_of ws xs true) (balance_few true),
+        each_most l.buses 3334 (balance_of ws xs Active) (balance_few Active),
+        each_most l.buses 3334 (balance_of ws xs Reactive) (balance_few Reactive),
         each_most l.references 2 (reference_tokens ws) (λ i. omega arith),
       )
 
@@ -184,14 +183,16 @@ module _ {ws : List ℕ} {xs : List Float} {l : Layout} (L : Laid ws xs l) where
       )
 
   pub all_most : length (shared_tokens ws xs l.buses l.branches) + length (row_tokens ws xs l) ≤ 268435456
-  unfolding row_tokens
+  unfolding row_tokens objective_and_end
   all_most =
       let o = objective_tokens ws xs (cost_count l.costs l.generators) in
+      let e : List Token = fixed (word 13 0) ∷ [] in
       omega (
         arith,
         shared_most ws xs l.buses l.branches,
-        length-append (bus_rows ws xs l) (branch_rows ws xs l ++ o),
-        length-append (branch_rows ws xs l) o,
+        length-append (bus_rows ws xs l) (branch_rows ws xs l ++ (o ++ e)),
+        length-append (branch_rows ws xs l) (o ++ e),
+        length-append o e,
         bus_most,
         branch_most,
         objective_most ws xs (cost_count l.costs l.generators),

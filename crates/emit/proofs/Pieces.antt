@@ -1,9 +1,8 @@
 -- The model's pieces as tokens over the numbers that the code holds.
-use Prim.Native.Nat.{ℕ, ◌+◌, ◌-◌, ◌*◌, ◌<◌, ◌≤◌}
-use native.Mathlib.Omega.{arith}
+use Prim.Native.Nat.{ℕ, ◌+◌, ◌-◌, ◌*◌}
 use mathlib.Core.Path.{◌≡◌}
-use mathlib.Core.Bool.{Bool, true, false, cond}
-use mathlib.Core.List.{List, [], ◌∷◌}
+use mathlib.Core.Bool.{Bool, cond}
+use mathlib.Core.List.{List}
 use lib.ListN.{get_or}
 use lib.Ieee.{Float}
 use Rattle.base.specs.Loop.{each, keep}
@@ -15,19 +14,16 @@ use Rattle.network.specs.declared.records.Branch.{Branch}
 use Rattle.network.specs.Layout.{LaidWords, Laid, branch_record}
 use Rattle.network.specs.internal.Records.{generator_record}
 use Rattle.network.specs.Network.{epigraphs_before}
-use Rattle.network.specs.Word.{branch_from, branch_to, branch_angled, reference_bus}
+use Rattle.network.specs.Word.{branch_from, branch_to, branch_angled}
 use Rattle.acopf.specs.Build.{subtract}
 use Rattle.acopf.specs.Model.{cost_term}
 use Rattle.writer.specs.internal.Tokens.{part_tokens}
-use Rattle.emit.specs.internal.Rows.{reference_tokens, angle_tokens, thermal_pair, thermal_tokens, segment_tokens, curve_tokens}
+use Rattle.emit.specs.internal.Rows.{angle_tokens, thermal_pair, thermal_tokens, segment_tokens, curve_tokens}
 use Rattle.emit.specs.internal.Objective.{cost_of}
 
 -- ---- what the words say
 
 module _ {ws : List ℕ} {l : Layout} (L : LaidWords ws l) where
-  pub reference_is : (r : ℕ) {v : ℕ} → v ≡ reference_bus (get_or ws (l.reference_words + r) 0) → part_tokens 11 (column v ∷ []) ≡ reference_tokens ws r
-  reference_is r e = rw (e, L.is)
-
   pub angle_is : (b : ℕ) {f t : ℕ} {on : Bool} → f ≡ branch_from (get_or ws (l.branch_words + b) 0) → t ≡ branch_to (get_or ws (l.branch_words + b) 0)
       → on ≡ branch_angled (get_or ws (l.branch_words + b) 0) → part_tokens 11 (keep on (subtract (column f) (column t))) ≡ angle_tokens ws b
   angle_is b e d h = rw (e, d, h, L.is)
@@ -51,8 +47,3 @@ module _ {ws : List ℕ} {xs : List Float} {l : Layout} (L : Laid ws xs l) where
       → cost_term ws xs g ≡ cond r.curved (column (2 * l.buses + 2 * l.generators + e)) (cost_of (2 * l.buses + g) (half64 ⊗ r.cost_q) r.cost_c)
   unfolding cost_term
   cost_is g er ee = rw (er, ee, L.words.is)
-
--- a segment with a row lies in its curve
-pub segment_fits : (curved : Bool) {count s points : ℕ} → count ≡ cond curved (points - 1) 0 → s < count → s + 2 ≤ points
-segment_fits true e h = omega arith
-segment_fits false e h = absurd (omega arith)

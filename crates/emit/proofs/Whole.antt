@@ -1,6 +1,5 @@
 -- The whole file as tokens: shared parts, rows, objective and end.
 use Prim.Native.Nat.{ℕ, suc, ◌+◌, ◌≤◌}
-use native.Mathlib.Nat.{zero-add}
 use native.Mathlib.Omega.{arith}
 use mathlib.Core.Path.{◌≡◌, refl, sym, ap, ◌∙◌}
 use mathlib.Core.Bool.{Bool, true, false, cond}
@@ -23,17 +22,18 @@ use Rattle.acopf.specs.Model.{cost_term, objective, model, file_words}
 use Rattle.acopf.specs.Parts.{branch_parts, shared_parts, p_from_part, q_from_part, p_to_part, q_to_part}
 use Rattle.acopf.specs.Rows.{Row, rows, p_balance_row, q_balance_row, reference_row, angle_row, rated, thermal_row, thermal_rows, segment_row, segment_rows}
 use Rattle.acopf.proofs.Counts.{count_terms}
-use Rattle.writer.specs.declared.writer.Writer.{Writer}
+use Rattle.writer.specs.declared.writer.ModelWriter.{ModelWriter}
 use Rattle.base.specs.internal.Section.{Wrote}
 use Rattle.writer.specs.internal.Tokens.{Token, fixed, numbered, begins, words_from, numbers_of, begun, tokens, list_tokens, part_tokens, Written, Room}
 use Rattle.parts.specs.internal.Parts.{shared_tokens}
+use Rattle.balance.specs.declared.balance.Power.TheVariants.{Active, Reactive}
 use Rattle.balance.specs.internal.Balance.{balance_of, balances_of}
 use Rattle.emit.specs.internal.Rows.{angle_tokens, thermal_tokens, curve_tokens}
 use Rattle.emit.specs.internal.Objective.{sum_head, cost_count, objective_tokens}
-use Rattle.emit.specs.internal.Whole.{bus_rows, branch_rows, row_tokens}
+use Rattle.emit.specs.internal.Whole.{bus_rows, branch_rows, objective_and_end, row_tokens}
 use Rattle.emit.proofs.Few.{all_most}
 use Rattle.base.proofs.Sections.{then}
-use Rattle.writer.proofs.Tokens.{map_append, numbers_append, words_append, length_words, parts_append, parts_each, parts_table, each_through, each_same, each_zero, table_each, list_terms, list_each, part_words_are, part_numbers_are, words_are, numbers_are}
+use Rattle.writer.proofs.Tokens.{map_append, numbers_append, words_append, length_words, parts_append, parts_each, parts_table, each_through, each_same, each_zero, table_each, list_terms, list_each, part_words_are, part_numbers_are, words_are, numbers_are, wrote_length}
 
 shared_are : (ws : List ℕ) (xs : List Float) → part_tokens 10 (shared_parts ws xs) ≡ shared_tokens ws xs (buses ws) (branches ws)
 unfolding shared_parts shared_tokens
@@ -73,11 +73,11 @@ curves_are : (ws : List ℕ) (xs : List Float) (g : ℕ) → row_parts (segment_
 unfolding segment_rows segment_row curve_tokens
 curves_are ws xs g = some_rows (curved ws g) (segments ws g) (segment_row ws xs g)
 
-p_rows_are : (ws : List ℕ) (xs : List Float) → each (buses ws) (λ i. row_parts (p_balance_row ws xs i ∷ [])) ≡ each (buses ws) (balance_of ws xs false)
+p_rows_are : (ws : List ℕ) (xs : List Float) → each (buses ws) (λ i. row_parts (p_balance_row ws xs i ∷ [])) ≡ each (buses ws) (balance_of ws xs Active)
 unfolding balance_of
 p_rows_are ws xs = refl
 
-q_rows_are : (ws : List ℕ) (xs : List Float) → each (buses ws) (λ i. row_parts (q_balance_row ws xs i ∷ [])) ≡ each (buses ws) (balance_of ws xs true)
+q_rows_are : (ws : List ℕ) (xs : List Float) → each (buses ws) (λ i. row_parts (q_balance_row ws xs i ∷ [])) ≡ each (buses ws) (balance_of ws xs Reactive)
 unfolding balance_of
 q_rows_are ws xs = refl
 
@@ -98,9 +98,9 @@ sum_if : (p : Bool) (k : ℕ) (f : ℕ → Expr) → tokens (sum (cond p (table 
 sum_if true k f = sum_tokens (table k f) ∙ rw (length_table k f, list_table k f)
 sum_if false k f = rw (each_zero (λ g. list_tokens (f g ∷ [])))
 
-objective_is : (ws : List ℕ) (xs : List Float) → fixed (word 12 0) ∷ tokens (objective ws xs) ++ (fixed (word 13 0) ∷ []) ≡ objective_tokens ws xs (cost_count (costs ws) (generators ws))
-unfolding objective objective_tokens
-objective_is ws xs = rw (sum_if (costs ws) (generators ws) (cost_term ws xs)) (ap (λ (l : List Token). fixed (word 12 0) ∷ l) (append_assoc (sum_head (cost_count (costs ws) (generators ws))) _ _))
+objective_is : (ws : List ℕ) (xs : List Float) → fixed (word 12 0) ∷ tokens (objective ws xs) ++ (fixed (word 13 0) ∷ []) ≡ objective_and_end ws xs (layout_of ws)
+unfolding objective objective_tokens objective_and_end
+objective_is ws xs = rw (sum_if (costs ws) (generators ws) (cost_term ws xs))
 
 -- ---- a model's words and constants
 
@@ -180,13 +180,7 @@ numbers_whole : (ws : List ℕ) (xs : List Float) → constants64 ws xs ≡ numb
 unfolding constants64 model
 numbers_whole ws xs = numbers_of_model (shared_parts ws xs) (map (λ r. r.expression) (rows ws xs)) (objective ws xs) ∙ rw (shared_are ws xs, rows_are ws xs)
 
--- ---- two writers, with the partTokens' numbers from 0 again
-
-abbrev pub begin : Writer
-begin = record { word = 0; constant = 0; part = 0 }
-
-abbrev pub again_from : Writer → Writer
-again_from q = record { word = q.word; constant = q.constant; part = 0 }
+-- ---- a writer at the lists' beginning, and then again with the parts' numbers from 0
 
 numbers_le : (ts : List Token) → length (numbers_of ts) ≤ length ts
 numbers_le [] = omega arith
@@ -200,36 +194,48 @@ begun_le (fixed w ∷ ts) = omega (arith, begun_le ts)
 begun_le (numbered w ∷ ts) = omega (arith, begun_le ts)
 begun_le (begins w ∷ ts) = omega (arith, begun_le ts)
 
-module _ (u v : List Token) (ws : List ℕ) (cs : List Float) (ew : ws ≡ words_from 0 0 u ++ words_from (length (numbers_of u)) 0 v) (ec : cs ≡ numbers_of u ++ numbers_of v) where
+pub record Begins (p : ModelWriter) : Type 0 where
+  pub word : p.word ≡ 0
+  pub constant : p.constant ≡ 0
+  pub part : p.part ≡ 0
+
+abbrev pub again : ModelWriter → ModelWriter
+again q = record { words = q.words; constants = q.constants; word = q.word; constant = q.constant; part = 0 }
+
+words_length : (u v : List Token) {ws : List ℕ} → ws ≡ words_from 0 0 u ++ words_from (length (numbers_of u)) 0 v → length ws ≡ length u + length v
+words_length u v e =
+    omega (arith, ap length e, length-append (words_from 0 0 u) (words_from (length (numbers_of u)) 0 v), length_words 0 0 u, length_words (length (numbers_of u)) 0 v)
+
+module _ {p : ModelWriter} (B : Begins p) (u v : List Token) {ws : List ℕ} {cs : List Float} (ew : ws ≡ words_from 0 0 u ++ words_from (length (numbers_of u)) 0 v) (ec : cs ≡ numbers_of u ++ numbers_of v) where
   lw : length ws ≡ length u + length v
-  lw = omega (arith, ap length ew, length-append (words_from 0 0 u) (words_from (length (numbers_of u)) 0 v), length_words 0 0 u, length_words (length (numbers_of u)) 0 v)
+  lw = words_length u v ew
 
   lc : length cs ≡ length (numbers_of u) + length (numbers_of v)
   lc = omega (arith, ap length ec, length-append (numbers_of u) (numbers_of v))
 
-  pub room_shared : (w : List ℕ) (c : List Float) → length ws ≤ length w → length cs ≤ length c → length ws ≤ 268435456 → Room w c begin u
-  room_shared w c a b d = record {
+  pub room_shared : length ws ≤ length p.words.now → length cs ≤ length p.constants.now → length ws ≤ 268435456 → Room p u
+  room_shared a b d = record {
     words = omega (arith, lw, a);
     numbers = omega (arith, lc, b);
     constants = omega (arith, lw, numbers_le u, d);
     parts = omega (arith, lw, begun_le u, d);
   }
 
-  pub room_rows : {w m : List ℕ} {c n : List Float} {q : Writer} → length ws ≤ length w → length cs ≤ length c → length ws ≤ 268435456 → Written w c begin u m n q → length m ≡ length w → length n ≡ length c → Room m n (again_from q) v
-  room_rows a b d p e f = record {
-    words = omega (arith, lw, a, e, p.words.follows, length_words 0 0 u);
-    numbers = omega (arith, lc, b, f, p.numbers.follows);
-    constants = omega (arith, lw, numbers_le u, numbers_le v, d, p.numbers.follows);
+  pub room_rows : {q : ModelWriter} → length ws ≤ length p.words.now → length cs ≤ length p.constants.now → length ws ≤ 268435456 → Written p u q → Room (again q) v
+  room_rows a b d k = record {
+    words = omega (arith, lw, a, wrote_length k.words, k.words.follows, length_words p.constant p.part u);
+    numbers = omega (arith, lc, b, wrote_length k.numbers, k.numbers.follows);
+    constants = omega (arith, lw, numbers_le u, numbers_le v, d, k.numbers.follows);
     parts = omega (arith, lw, begun_le v, d);
   }
 
-  pub both_words : {w m w' : List ℕ} {c n c' : List Float} {q p : Writer} → Written w c begin u m n q → Written m n (again_from q) v w' c' p → Wrote w 0 ws w' p.word
-  both_words {w = w} {w' = w'} {q = q} {p = p} a b =
-      let e : q.constant ≡ length (numbers_of u) = a.numbers.follows ∙ zero-add _ in
-      rw ew (rw e at (then a.words b.words))
+  pub both_words : {q r : ModelWriter} → Written p u q → Written (again q) v r → Wrote p.words.now 0 ws r.words.now r.word
+  both_words {q} {r} a b =
+      let e : q.constant ≡ length (numbers_of u) = omega (arith, a.numbers.follows) in
+      rw ew (rw (B.word, B.constant, B.part, e) at (then a.words b.words))
 
-  pub both_numbers : {w m w' : List ℕ} {c n c' : List Float} {q p : Writer} → Written w c begin u m n q → Written m n (again_from q) v w' c' p → Wrote c 0 cs c' p.constant
-  both_numbers a b = rw ec (then a.numbers b.numbers)
+  pub both_numbers : {q r : ModelWriter} → Written p u q → Written (again q) v r → Wrote p.constants.now 0 cs r.constants.now r.constant
+  both_numbers a b = rw ec (rw B.constant at (then a.numbers b.numbers))
 
 module _ {ws : List ℕ} {xs : List Float} {l : Layout} (L : Laid ws xs l) where
   abbrev us : List Token
@@ -243,4 +249,4 @@ module _ {ws : List ℕ} {xs : List Float} {l : Layout} (L : Laid ws xs l) where
 
   -- every running number fits in 28 bits
   pub few_words : length (file_words ws xs) ≤ 268435456
-  few_words = omega (arith, lw us (row_tokens ws xs l) _ _ words_at numbers_at, all_most L)
+  few_words = omega (arith, words_length us (row_tokens ws xs l) words_at, all_most L)

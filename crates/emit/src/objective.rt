@@ -1,182 +1,104 @@
 // The objective: under header 1 a term for each generator, its epigraph column or its quadratic cost, else the constant 0.
-ghost use Rattle.std.specs.Prelude.{◌≡◌, cond, [], ◌∷◌, ◌+◌, ◌<◌, ◌≤◌};
+ghost use Rattle.std.specs.Prelude.{cond, [], ◌∷◌, ◌<◌, ◌≤◌};
 ghost use Rattle.base.specs.Loop.{each};
 ghost use Rattle.base.specs.Word.{word};
 ghost use Rattle.float.specs.Number.{◌⊗◌, half64};
 ghost use Rattle.nl.specs.Expr.{column};
 ghost use Rattle.writer.specs.internal.Tokens.{fixed, Written, Room, list_tokens};
-ghost use Rattle.network.specs.Layout.{Laid};
 ghost use Rattle.emit.specs.internal.Objective.{cost_of, cost_tokens, sum_head, cost_count, objective_tokens};
 
 use acopf::counted;
-use network::{Layout, first_generator, generator_of, next_generator};
-use writer::word::{COLUMN, CONSTANT, END, MULTIPLY, OBJECTIVE, SQUARE, SUM};
-use writer::{Writer, model_word, put};
+use network::{Generator, Tables};
+use nl::{Kind, Mark};
+use writer::{ModelWriter, WordKind};
 
 // The beginning of a sum of so many terms: none is a constant 0, one is its term.
-fn objective_head(terms: usize, file: &mut [u32], constants: &mut [f64], writer: Writer) -> Writer
-    requires { (terms ≤ 256)
-        × Room file.old constants.old writer (fixed (word 12 0) ∷ sum_head terms) }
-    ensures { Written file.old constants.old writer (fixed (word 12 0) ∷ sum_head terms)
-        file.new constants.new result }
+fn objective_head(writer: &mut ModelWriter, terms: usize)
+    requires few { terms ≤ 256 }
+    requires room { Room writer.old (fixed (word 12 0) ∷ sum_head terms) }
+    ensures { Written writer.old (fixed (word 12 0) ∷ sum_head terms) writer.new }
 {
-    if terms == 0 {
-        return put(
-            file,
-            constants,
-            writer,
-            &[OBJECTIVE, model_word(CONSTANT, writer.constant)],
+    let objective = Mark::Objective.word(0);
+    match terms {
+        0 => writer.put(
+            &[objective, Kind::Constant.word(writer.constant)],
             &[0.0],
             0,
-        );
+        ),
+        1 => writer.put(&[objective], &[], 0),
+        _ => writer.put(&[objective, Kind::Sum.word(terms)], &[], 0),
     }
-    if terms == 1 {
-        return put(file, constants, writer, &[OBJECTIVE], &[], 0);
-    }
-    put(
-        file,
-        constants,
-        writer,
-        &[OBJECTIVE, model_word(SUM, terms)],
-        &[],
-        0,
-    )
 }
 
 // Half of q times pg squared, plus c times pg.
-fn quadratic_cost(
-    pg: usize,
-    half: f64,
-    linear: f64,
-    file: &mut [u32],
-    constants: &mut [f64],
-    writer: Writer,
-) -> Writer
-    requires { (pg < 4096)
-        × Room file.old constants.old writer (list_tokens (cost_of pg half linear ∷ [])) }
-    ensures { Written file.old constants.old writer (list_tokens (cost_of pg half linear ∷ []))
-        file.new constants.new result }
+fn quadratic_cost(writer: &mut ModelWriter, pg: usize, half: f64, linear: f64)
+    requires pg { pg < 4096 }
+    requires room { Room writer.old (list_tokens (cost_of pg half linear ∷ [])) }
+    ensures { Written writer.old (list_tokens (cost_of pg half linear ∷ [])) writer.new }
 {
     let constant = writer.constant;
-    let own = model_word(COLUMN, pg);
-    put(
-        file,
-        constants,
-        writer,
+    let own = Kind::Column.word(pg);
+    writer.put(
         &[
-            model_word(SUM, 2),
-            MULTIPLY,
-            model_word(CONSTANT, constant),
-            SQUARE,
+            Kind::Sum.word(2),
+            Kind::Multiply.word(0),
+            Kind::Constant.word(constant),
+            Kind::Square.word(0),
             own,
-            MULTIPLY,
-            model_word(CONSTANT, constant + 1),
+            Kind::Multiply.word(0),
+            Kind::Constant.word(constant + 1),
             own,
         ],
         &[half, linear],
         0,
-    )
+    );
 }
 
-// A generator's term: its epigraph column, or its quadratic cost without the constant.
-fn cost_term(
-    curved: bool,
-    epigraph: usize,
-    pg: usize,
-    cost_q: f64,
-    cost_c: f64,
-    file: &mut [u32],
-    constants: &mut [f64],
-    writer: Writer,
-) -> Writer
-    requires { (epigraph < 4096) × (pg < 4096)
-        × Room file.old constants.old writer
-        (list_tokens (cond curved (column epigraph) (cost_of pg (half64 ⊗ cost_q) cost_c) ∷ [])) }
-    ensures { Written file.old constants.old writer
-        (list_tokens (cond curved (column epigraph) (cost_of pg (half64 ⊗ cost_q) cost_c) ∷ []))
-        file.new constants.new result }
+// The generator's epigraph column, or its quadratic cost without the constant.
+fn cost_term(writer: &mut ModelWriter, epigraph: usize, pg: usize, generator: &Generator)
+    requires columns { (epigraph < 4096) × (pg < 4096) }
+    requires room { let g = generator.now in
+        Room writer.old (list_tokens (cond g.curved (column epigraph) (cost_of pg (half64 ⊗ g.cost_q) g.cost_c) ∷ [])) }
+    ensures { let g = generator.now in
+        Written writer.old
+        (list_tokens (cond g.curved (column epigraph) (cost_of pg (half64 ⊗ g.cost_q) g.cost_c) ∷ []))
+        writer.new }
 {
-    if curved {
-        return put(
-            file,
-            constants,
-            writer,
-            &[model_word(COLUMN, epigraph)],
-            &[],
-            0,
-        );
+    if generator.curved {
+        writer.put(&[Kind::Column.word(epigraph)], &[], 0);
+    } else {
+        quadratic_cost(writer, pg, 0.5 * generator.cost_q, generator.cost_c);
     }
-    quadratic_cost(pg, 0.5 * cost_q, cost_c, file, constants, writer)
 }
 
-// Writes the cost terms of the first `count` generators.
-fn cost_terms(
-    words: &[u32],
-    numbers: &[f64],
-    layout: Layout,
-    count: usize,
-    file: &mut [u32],
-    constants: &mut [f64],
-    writer: Writer,
-) -> Writer
-    requires { Laid words.now numbers.now layout × (count ≤ layout.generators)
-        × Room file.old constants.old writer (each count (cost_tokens words.now numbers.now)) }
-    ensures { Written file.old constants.old writer
-        (each count (cost_tokens words.now numbers.now))
-        file.new constants.new result }
+fn cost_terms(writer: &mut ModelWriter, tables: &Tables)
+    requires { Room writer.old
+        (each tables.now.layout.generators (cost_tokens tables.now.words.now tables.now.numbers.now)) }
+    ensures { Written writer.old
+        (each tables.now.layout.generators (cost_tokens tables.now.words.now tables.now.numbers.now))
+        writer.new }
 {
-    let n = layout.buses;
-    let k = layout.generators;
-    let mut next = writer;
-    let mut cursor = first_generator(words, layout);
+    let n = tables.layout.buses;
+    let k = tables.layout.generators;
     let mut epigraphs = 0usize;
-    while cursor.index < count {
-        let generator = generator_of(words, numbers, layout, cursor);
-        let curved = generator.curved;
-        let epigraph = 2 * n + 2 * k + epigraphs;
-        let pg = 2 * n + cursor.index;
-        next = cost_term(
-            curved,
-            epigraph,
-            pg,
-            generator.cost_q,
-            generator.cost_c,
-            file,
-            constants,
-            next,
-        );
-        epigraphs = counted(epigraphs, curved);
-        cursor = next_generator(words, layout, cursor);
+    for (g, generator) in tables.generators() {
+        cost_term(writer, 2 * n + 2 * k + epigraphs, 2 * n + g, &generator);
+        epigraphs = counted(epigraphs, generator.curved);
     }
-    next
 }
 
-fn cost_count(priced: bool, k: usize) -> usize
-    ensures { (result ≡ cost_count priced k) × (result ≤ k) }
+pub(crate) fn objective(writer: &mut ModelWriter, tables: &Tables)
+    requires { let layout = tables.now.layout in
+        Room writer.old (objective_tokens tables.now.words.now tables.now.numbers.now (cost_count layout.costs layout.generators)) }
+    ensures { let layout = tables.now.layout in
+        Written writer.old
+        (objective_tokens tables.now.words.now tables.now.numbers.now (cost_count layout.costs layout.generators))
+        writer.new }
 {
-    if priced {
-        return k;
+    if tables.layout.costs {
+        objective_head(writer, tables.layout.generators);
+        cost_terms(writer, tables);
+    } else {
+        objective_head(writer, 0);
     }
-    0
-}
-
-pub(crate) fn objective_and_end(
-    words: &[u32],
-    numbers: &[f64],
-    layout: Layout,
-    file: &mut [u32],
-    constants: &mut [f64],
-    writer: Writer,
-) -> Writer
-    requires { Laid words.now numbers.now layout
-        × Room file.old constants.old writer
-        (objective_tokens words.now numbers.now (cost_count layout.costs layout.generators)) }
-    ensures { Written file.old constants.old writer
-        (objective_tokens words.now numbers.now (cost_count layout.costs layout.generators))
-        file.new constants.new result }
-{
-    let count = cost_count(layout.costs, layout.generators);
-    let head = objective_head(count, file, constants, writer);
-    let next = cost_terms(words, numbers, layout, count, file, constants, head);
-    put(file, constants, next, &[END], &[], 0)
 }

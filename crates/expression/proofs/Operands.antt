@@ -5,10 +5,9 @@ use mathlib.Core.Bool.{Bool, true, false, cond, ◌&&◌}
 use Prim.Native.Nat.{ℕ, zero, suc, ◌+◌, ◌-◌, ◌≤◌, ◌<◌}
 use native.Mathlib.Omega.{arith}
 use native.Mathlib.Numerals.{add-one}
-use lib.ListN.{length, get_or, get_or-map, get_or-eq_default, length-map}
-use lib.Dec.{T, eqb}
-use lib.Ieee.{Float, nan, binary64, to_bits, of_bits, fits}
-use lib.Ieee.Bits.{of_bits-to_bits}
+use lib.ListN.{length, get_or, get_or-map}
+use lib.Dec.{eqb}
+use lib.Ieee.{Float, nan, binary64, to_bits, of_bits}
 use borrow.Author.Tests.{lt-ltb, le-ltb, ne_eqb}
 use Rattle.base.specs.Word.{kind_of, load_of}
 use Rattle.float.specs.Number.{zero64}
@@ -21,13 +20,10 @@ use Rattle.expression.specs.internal.Scan.{Worth, evaluated}
 use Rattle.expression.proofs.Lists.{any_default}
 
 -- a constant by way of its pattern
-pub by_pattern : (xs : List Float) (i : ℕ) → i < length xs → T (fits binary64 (get_or xs i nan)) → get_or xs i nan ≡ of_bits binary64 (get_or (patterns xs) i 0)
+pub by_pattern : (xs : List Float) (i : ℕ) → i < length xs → of_bits binary64 (to_bits binary64 (get_or xs i nan)) ≡ get_or xs i nan → get_or xs i nan ≡ of_bits binary64 (get_or (patterns xs) i 0)
 unfolding to_bits of_bits
 by_pattern xs i l h =
-    sym (ap (of_bits binary64) (get_or-map (to_bits binary64) xs i zero64 ∙ ap (to_bits binary64) (any_default xs i zero64 nan l)) ∙ of_bits-to_bits binary64 (get_or xs i nan) h)
-
-pub no_pattern : (xs : List Float) (i : ℕ) → length xs ≤ i → zero64 ≡ of_bits binary64 (get_or (patterns xs) i 0)
-no_pattern xs i h = sym (ap (of_bits binary64) (get_or-eq_default (patterns xs) 0 {n = i} (omega (arith, length-map xs (to_bits binary64)))))
+    sym (ap (of_bits binary64) (get_or-map (to_bits binary64) xs i zero64 ∙ ap (to_bits binary64) (any_default xs i zero64 nan l)) ∙ h)
 
 pub and_true : (a : Bool) → (a && true) ≡ a
 and_true true = refl

@@ -1,103 +1,133 @@
 -- Reading and working out an expression in one go, a step at a time, as the code does.
 use mathlib.Core.Path.{◌≡◌, refl, ap, sym, ◌∙◌}
 use mathlib.Core.List.{List}
-use mathlib.Core.Bool.{Bool, true, false, cond, ◌&&◌}
+use mathlib.Core.Bool.{Bool, true, false, cond, ◌&&◌, true≢false}
+use mathlib.Core.Logic.{◌⊎◌, inl, inr}
 use Prim.Native.Nat.{ℕ, zero, suc, ◌+◌, ◌-◌, ◌≤◌, ◌<◌}
 use native.Mathlib.Omega.{arith}
 use native.Mathlib.Nat.{add-zero}
 use lib.ListN.{length, get_or}
-use lib.Dec.{T, eqb, ltb}
-use lib.Ieee.{Float, nan, binary64, fits}
-use borrow.Author.Tests.{lt-ltb, eq-eqb, ne_eqb}
+use lib.Dec.{eqb, leb, ltb}
+use lib.Ieee.{Float, nan}
+use borrow.Author.Tests.{lt-ltb, le-ltb, eq-eqb, ne_eqb, ltb-true, ltb-false, leb-true}
+use Rattle.std.specs.Prelude.{Option, Some, None, MatchOption, Result, Ok, Err, IsErrAnd}
+use Rattle.std.specs.Option.{ok_or}
 use Rattle.base.specs.Word.{kind_of, load_of}
 use Rattle.float.specs.Number.{◌⊗◌, zero64}
-use Rattle.nl.specs.declared.Read.{Read}
-use Rattle.nl.specs.declared.Read.TheVariants.{Went, Wrong}
-use Rattle.nl.specs.declared.Head.{Head}
-use Rattle.nl.specs.declared.Head.TheVariants.{Open, Refused}
-use Rattle.nl.specs.Reader.{word_ok, arity, uses, many, read_head, read_expr}
+use Rattle.nl.specs.declared.reader.Cursor.{Cursor}
+use Rattle.nl.specs.declared.reader.Head.{Head}
+use Rattle.nl.specs.declared.reader.WrongWord.{WrongWord}
+use Rattle.nl.specs.Reader.{Read, head, word_ok, arity, uses, many, read_head, read_expr}
 use Rattle.nl.proofs.Words.{leaf_arity}
-use Rattle.nl.proofs.Sound.{went_on}
-use Rattle.nl.proofs.Steps.{spelled, head_open, head_inside, one_more_is, one_wrong, many_none}
+use Rattle.nl.proofs.Steps.{same_place, spelled, head_open, head_inside, one_more_is, many_none}
 use Rattle.expression.specs.declared.Scanned.{Scanned}
 use Rattle.expression.specs.Value.{step, applied, argument_ok, value, patterns}
 use Rattle.model_reading.specs.Parse.{leaf_of, parse_many, parse}
-use Rattle.expression.specs.internal.Scan.{evaluated, worth, Reads, Scans}
+use Rattle.expression.specs.internal.Scan.{evaluated, worth, IsNumber, Finds, LeafScans, Reads, Scans}
 use Rattle.expression.proofs.Lists.{any_default}
 use Rattle.expression.proofs.Operands.{and_true, by_pattern, a_leaf, whole, begins, goes_on, ends}
 
--- where nothing was found there is nothing to show
-pub nothing : {A : Type 0} {n : ℕ} → n ≡ 0 → (n ≡ 0 → ⊥) → A
-nothing e h = absurd (h e)
+-- a word that may stand and has no operands is a constant's, a column's or a shared part's
+no_operands : (constants columns named k kind load : ℕ) → word_ok constants columns named k kind load ≡ true → arity kind load ≡ 0 → kind < 3
+unfolding word_ok arity
+no_operands constants columns named k kind load ok e = go (ltb kind 3) refl
+  where
+    over : (b c d : Bool) → cond b 2 (cond c 1 load) ≡ 0 → cond c (eqb load 0) (cond d (leb 2 load) false) ≡ true → kind < 3
+    over true c d x y = absurd (omega arith)
+    over false true d x y = absurd (omega arith)
+    over false false true x y = let l = leb-true 2 load y in absurd (omega arith)
+    over false false false x y = absurd (cc)
+
+    go : (b : Bool) → ltb kind 3 ≡ b → kind < 3
+    go true l = ltb-true kind 3 l
+    go false l =
+        let m = ltb-false kind 3 l in
+        over (ltb kind 6) (ltb kind 9) (eqb kind 9) (rw l at e)
+        (rw (ne_eqb kind 0 (λ z. omega arith), ne_eqb kind 1 (λ z. omega arith), ne_eqb kind 2 (λ z. omega arith)) at ok)
+
+has_operands : (kind load n : ℕ) → (n ≡ 0 → ⊥) → n ≡ arity kind load → 3 ≤ kind
+has_operands kind load n some e = go (ltb kind 3) refl
+  where
+    go : (b : Bool) → ltb kind 3 ≡ b → 3 ≤ kind
+    go true l = absurd (some (e ∙ leaf_arity kind load (ltb-true kind 3 l)))
+    go false l = ltb-false kind 3 l
+
+abbrev pub scanned : Float → Bool → ℕ → ℕ → Scanned
+scanned value in_range at next = record { value = value; in_range = in_range; end = record { at = at; next = next } }
 
 module _ (ws : List ℕ) (xs point values : List Float) where
-  abbrev pub read_at : ℕ → ℕ → ℕ → Read
+  abbrev pub read_at : ℕ → ℕ → ℕ → Read Cursor
   read_at = read_expr ws (length xs) (length point) (length values)
 
-  -- ---- what was read, and the first wrong word
-  pub read_well : (depth at k : ℕ) (s : Scanned) → (s.at ≡ 0 → ⊥) → Reads ws xs point values depth at k s → Scans ws xs point values depth at k s
-  read_well depth at k s h p = record { finds = λ _. p; wrong = λ z. absurd (h z) }
+  -- ---- a word that may stand
 
-  pub read_wrong : (depth at k p : ℕ) (s : Scanned) → (s.at ≡ 0) × (s.next ≡ p) → read_at depth at k ≡ Wrong p → Scans ws xs point values depth at k s
-  read_wrong depth at k p s (z, n) w = record { finds = λ h. absurd (h z); wrong = λ _. w ∙ ap Wrong (sym n) }
-
-  -- a word that may stand is followed by as many operands as its kind and load say
-  open_arity : (at k n b : ℕ) (h : Head) → h ≡ read_head ws (length xs) (length point) (length values) at k → h ≡ Open n b → n ≡ arity (kind_of (get_or ws at 0)) (load_of (get_or ws at 0))
+  pub open_head : (at k : ℕ) (h : Head) → Some h ≡ read_head ws (length xs) (length point) (length values) at k
+      → (word_ok (length xs) (length point) (length values) k (kind_of (get_or ws at 0)) (load_of (get_or ws at 0)) ≡ true)
+      × (h.operands ≡ arity (kind_of (get_or ws at 0)) (load_of (get_or ws at 0)))
   unfolding read_head
-  open_arity at k n b h p q = go (ltb at (length ws)) (word_ok (length xs) (length point) (length values) k (kind_of (get_or ws at 0)) (load_of (get_or ws at 0))) _ _ (sym p ∙ q)
+  open_head at k h p = go (ltb at (length ws)) (word_ok (length xs) (length point) (length values) k (kind_of (get_or ws at 0)) (load_of (get_or ws at 0))) _ _ p
     where
-      operands_of : Head → ℕ
-      operands_of (Open a c) = a
-      operands_of Refused = 0
+      operands_of : Option Head → ℕ
+      operands_of (Some a) = a.operands
+      operands_of None = 0
 
-      go : (t u : Bool) (a c : ℕ) → cond t (cond u (Open a c) Refused) Refused ≡ Open n b → n ≡ a
-      go true true a c r = sym (ap operands_of r)
-      go true false a c r = let z : ◌≡◌ {A = ℕ} 0 1 = cc in absurd (omega arith)
-      go false u a c r = let z : ◌≡◌ {A = ℕ} 0 1 = cc in absurd (omega arith)
+      go : (t u : Bool) (n b : ℕ) → Some h ≡ cond t (cond u (head n b) None) None → (u ≡ true) × (h.operands ≡ n)
+      go true true n b r = (refl, ap operands_of r)
+      go true false n b r = absurd (cc)
+      go false u n b r = absurd (cc)
 
   -- ---- constants, columns and shared parts
 
-  leaf_scans : (d at k kind load next : ℕ) (v : Float) → at < length ws → kind ≡ kind_of (get_or ws at 0) → load ≡ load_of (get_or ws at 0) → kind < 3
+  leaf_reads : (d at k kind load next : ℕ) (v : Float) → at < length ws → kind ≡ kind_of (get_or ws at 0) → load ≡ load_of (get_or ws at 0) → kind < 3
       → word_ok (length xs) (length point) (length values) k kind load ≡ true → next ≡ k + uses kind → v ≡ value point values (leaf_of (patterns xs) kind load)
-      → Reads ws xs point values (suc d) at k (record { value = v; in_range = true; at = at + 1; next = next })
-  unfolding arity
-  leaf_scans d at k kind load next v h e f lo ok n p = record {
-    went = spelled ws (length xs) (length point) (length values) d at k ∙ rw (lt-ltb at (length ws) h, ← e, ← f, ok, no_operands, n);
+      → Reads ws xs point values (suc d) at k (scanned v true (at + 1) next)
+  leaf_reads d at k kind load next v h e f lo ok n p = record {
+    went = spelled ws (length xs) (length point) (length values) d at k ∙ rw (lt-ltb at (length ws) h, ← e, ← f, ok, leaf_arity kind load lo, n);
     is = sym (a_leaf ws (patterns xs) point values (suc d) at kind load v (λ z. omega arith) h e f lo p);
   }
-    where
-      no_operands : arity kind load ≡ 0
-      no_operands = rw (lt-ltb kind 3 lo)
 
-  module _ (d at k kind load : ℕ) (s : Scanned) (h : at < length ws) (e : kind ≡ kind_of (get_or ws at 0)) (f : load ≡ load_of (get_or ws at 0)) where
-    pub a_constant : kind ≡ 0 → load ≡ k → T (fits binary64 (get_or xs load nan)) → (load < length xs) × (s ≡ record { value = get_or xs load nan; in_range = true; at = at + 1; next = load + 1 })
-        → Reads ws xs point values (suc d) at k s
+  module _ (at k kind load : ℕ) (h : at < length ws) (e : kind ≡ kind_of (get_or ws at 0)) (f : load ≡ load_of (get_or ws at 0)) where
+    pub constant_scans : (found : Option Scanned) → kind ≡ 0 → load ≡ k
+        → MatchOption found (length xs ≤ load) (λ s. IsNumber xs load (record { at = at + 1; next = load + 1 }) s) → LeafScans ws xs point values at k found
     unfolding word_ok uses leaf_of value
-    a_constant z n fit (l, p) =
-        rw p (leaf_scans d at k kind load (load + 1) (get_or xs load nan) h e f (omega arith)
-        (rw (eq-eqb kind 0 z, eq-eqb load k n, lt-ltb k (length xs) (omega arith))) (rw (eq-eqb kind 0 z, n)) (rw (eq-eqb kind 0 z) (by_pattern xs load l fit)))
+    constant_scans (Some s) z n p =
+        λ d. rw p.is (leaf_reads d at k kind load (load + 1) (get_or xs load nan) h e f (omega arith)
+        (rw (eq-eqb kind 0 z, eq-eqb load k n, lt-ltb k (length xs) (omega (arith, p.within)))) (rw (eq-eqb kind 0 z, n))
+        (rw (eq-eqb kind 0 z) (by_pattern xs load p.within (rw p.is at p.by_pattern))))
+    constant_scans None z n p = λ _ _. rw (← e, ← f, eq-eqb kind 0 z, eq-eqb load k n, le-ltb k (length xs) (omega arith))
 
-    pub a_column : kind ≡ 1 → (load < length point) × (s ≡ record { value = get_or point load nan; in_range = true; at = at + 1; next = k }) → Reads ws xs point values (suc d) at k s
+    -- another constant's number, or no word of one
+    pub no_leaf : (kind ≡ 1 → ⊥) → (kind ≡ 2 → ⊥) → ((kind ≡ 0) × (load ≡ k → ⊥)) ⊎ (kind ≡ 0 → ⊥) → LeafScans ws xs point values at k None
+    unfolding word_ok
+    no_leaf n n' (inl (z, o)) = λ _ _. rw (← e, ← f, eq-eqb kind 0 z, ne_eqb load k o)
+    no_leaf n n' (inr z) = λ _ low. absurd (omega arith)
+
+    pub column_scans : (found : Option Scanned) → kind ≡ 1
+        → MatchOption found (length point ≤ load) (λ s. IsNumber point load (record { at = at + 1; next = k }) s) → LeafScans ws xs point values at k found
     unfolding word_ok uses leaf_of value
-    a_column z (l, p) =
+    column_scans (Some s) z p =
         let o : kind ≡ 0 → ⊥ = λ y. omega arith in
-        rw p (leaf_scans d at k kind load k (get_or point load nan) h e f (omega arith)
-        (rw (ne_eqb kind 0 o, eq-eqb kind 1 z, lt-ltb load (length point) l)) (rw (ne_eqb kind 0 o, add-zero k)) (rw (ne_eqb kind 0 o, eq-eqb kind 1 z) (any_default point load nan zero64 l)))
+        λ d. rw p.is (leaf_reads d at k kind load k (get_or point load nan) h e f (omega arith)
+        (rw (ne_eqb kind 0 o, eq-eqb kind 1 z, lt-ltb load (length point) p.within)) (rw (ne_eqb kind 0 o, add-zero k))
+        (rw (ne_eqb kind 0 o, eq-eqb kind 1 z) (any_default point load nan zero64 p.within)))
+    column_scans None z p = λ _ _. rw (← e, ← f, ne_eqb kind 0 (λ y. omega arith), eq-eqb kind 1 z, le-ltb load (length point) p)
 
-    pub a_shared : kind ≡ 2 → (load < length values) × (s ≡ record { value = get_or values load nan; in_range = true; at = at + 1; next = k }) → Reads ws xs point values (suc d) at k s
+    pub shared_scans : (found : Option Scanned) → kind ≡ 2
+        → MatchOption found (length values ≤ load) (λ s. IsNumber values load (record { at = at + 1; next = k }) s) → LeafScans ws xs point values at k found
     unfolding word_ok uses leaf_of value
-    a_shared z (l, p) =
+    shared_scans (Some s) z p =
         let o : kind ≡ 0 → ⊥ = λ y. omega arith in
         let o' : kind ≡ 1 → ⊥ = λ y. omega arith in
-        rw p (leaf_scans d at k kind load k (get_or values load nan) h e f (omega arith)
-        (rw (ne_eqb kind 0 o, ne_eqb kind 1 o', eq-eqb kind 2 z, lt-ltb load (length values) l)) (rw (ne_eqb kind 0 o, add-zero k))
-        (rw (ne_eqb kind 0 o, ne_eqb kind 1 o') (any_default values load nan zero64 l)))
+        λ d. rw p.is (leaf_reads d at k kind load k (get_or values load nan) h e f (omega arith)
+        (rw (ne_eqb kind 0 o, ne_eqb kind 1 o', eq-eqb kind 2 z, lt-ltb load (length values) p.within)) (rw (ne_eqb kind 0 o, add-zero k))
+        (rw (ne_eqb kind 0 o, ne_eqb kind 1 o') (any_default values load nan zero64 p.within)))
+    shared_scans None z p = λ _ _. rw (← e, ← f, ne_eqb kind 0 (λ y. omega arith), ne_eqb kind 1 (λ y. omega arith), eq-eqb kind 2 z, le-ltb load (length values) p)
 
   -- ---- operands
 
   -- a product of two
-  pub a_product : (d at k : ℕ) (a b : Scanned) → at < length ws → get_or ws at 0 ≡ 0x5000_0000 → Reads ws xs point values (suc d) (at + 1) k a → Reads ws xs point values (suc d) a.at a.next b
-      → Reads ws xs point values (suc (suc d)) at k (record { value = a.value ⊗ b.value; in_range = a.in_range && b.in_range; at = b.at; next = b.next })
+  pub a_product : (d at k : ℕ) (a b : Scanned) → at < length ws → get_or ws at 0 ≡ 0x5000_0000 → Reads ws xs point values (suc d) (at + 1) k a → Reads ws xs point values (suc d) a.end.at a.end.next b
+      → Reads ws xs point values (suc (suc d)) at k (record { value = a.value ⊗ b.value; in_range = a.in_range && b.in_range; end = b.end })
   unfolding word_ok arity uses step applied argument_ok
   a_product d at k a b h w p q = record {
     went = spelled ws (length xs) (length point) (length values) (suc d) at k ∙ rw (lt-ltb at (length ws) h, w, add-zero k, p.went, q.went);
@@ -108,69 +138,69 @@ module _ (ws : List ℕ) (xs point values : List Float) where
         let m : suc (suc d) - 1 ≡ suc d = omega arith in
         let z = rw m at (begins ws (patterns xs) point values (suc (suc d)) at 5 0 2 (λ y. omega arith) h (rw w) (rw w) (omega arith) refl) in
         let y = goes_on ws (patterns xs) point values f 5 2 0 (at + 1) zero64 true (worth a) a.value x (omega arith) z (sym p.is) refl in
-        let v = goes_on ws (patterns xs) point values f 5 2 (0 + 1) a.at a.value (true && a.in_range) (worth b) (a.value ⊗ b.value) x (omega arith) y (sym q.is) refl in
-        sym (ends ws (patterns xs) point values f 5 2 (0 + 1 + 1) b.at (a.value ⊗ b.value) ((true && a.in_range) && b.in_range) x (omega arith) v) ∙ rw (and_true (a.in_range && b.in_range));
+        let v = goes_on ws (patterns xs) point values f 5 2 (0 + 1) a.end.at a.value (true && a.in_range) (worth b) (a.value ⊗ b.value) x (omega arith) y (sym q.is) refl in
+        sym (ends ws (patterns xs) point values f 5 2 (0 + 1 + 1) b.end.at (a.value ⊗ b.value) ((true && a.in_range) && b.in_range) x (omega arith) v) ∙ rw (and_true (a.in_range && b.in_range));
   }
+
+  -- a word with no operands is a leaf's
+  pub leaf_only : (depth at k : ℕ) (h : Head) (found : Option Scanned) (w : WrongWord) → (depth ≡ 0 → ⊥) → Some h ≡ read_head ws (length xs) (length point) (length values) at k
+      → h.operands ≡ 0 → LeafScans ws xs point values at k found → Scans ws xs point values depth at k (ok_or found w)
+  leaf_only zero at k h found w nz p n s = absurd (nz refl)
+  leaf_only (suc d) at k h (Some s) w nz p n f = f d
+  leaf_only (suc d) at k h None w nz p n f =
+      let (ok, arity-is) = open_head at k h p in
+      let inside = head_inside ws (length xs) (length point) (length values) at k h.operands h.next _ p refl in
+      let bad = f inside (no_operands (length xs) (length point) (length values) k _ _ ok (sym arity-is ∙ n)) in
+      absurd (true≢false (sym ok ∙ bad))
 
   -- n operands of a word of this kind, of which i are gathered
   pub record Gathered (depth at k kind n : ℕ) (s : Scanned) (i : ℕ) : Type 0 where
-    pub went : read_at depth at k ≡ many (read_at (depth - 1)) (n - i) s.at s.next
+    pub went : read_at depth at k ≡ many (read_at (depth - 1)) (n - i) s.end.at s.end.next
     pub is : evaluated point values (parse ws (patterns xs) depth at)
-        ≡ whole ws (patterns xs) point values kind i s.value s.in_range (parse_many (parse ws (patterns xs) (depth - 1)) (n - i) s.at)
+        ≡ whole ws (patterns xs) point values kind i s.value s.in_range (parse_many (parse ws (patterns xs) (depth - 1)) (n - i) s.end.at)
 
-  module _ (depth at k kind load n first : ℕ) (head : Head) (deep : depth ≡ 0 → ⊥) (p : head ≡ read_head ws (length xs) (length point) (length values) at k)
-      (q : head ≡ Open n first) (e : kind ≡ kind_of (get_or ws at 0)) (f : load ≡ load_of (get_or ws at 0)) where
-    begun : read_at depth at k ≡ many (read_at (depth - 1)) (n - 0) (at + 1) first
-    begun = head_open ws (length xs) (length point) (length values) depth at k n first head deep p q
+  module _ (depth at k kind : ℕ) (h : Head) (deep : depth ≡ 0 → ⊥) (p : Some h ≡ read_head ws (length xs) (length point) (length values) at k) (e : kind ≡ kind_of (get_or ws at 0)) where
+    pub gathered_none : (h.operands ≡ 0 → ⊥) → Gathered depth at k kind h.operands (scanned zero64 true (at + 1) h.next) 0
+    gathered_none some = record {
+      went = head_open ws (length xs) (length point) (length values) depth at k h.operands h.next _ deep p refl;
+      is =
+          let here = rw (← e) at (open_head at k h p).1 in
+          begins ws (patterns xs) point values depth at kind _ h.operands deep (head_inside ws (length xs) (length point) (length values) at k h.operands h.next _ p refl) e refl (has_operands kind _ h.operands some here) here;
+    }
 
-    open_inside : at < length ws
-    open_inside = head_inside ws (length xs) (length point) (length values) at k n first head p q
+  pub gathered_more : (depth at k kind n i : ℕ) (s e : Scanned) → i < n → Gathered depth at k kind n s i → Reads ws xs point values (depth - 1) s.end.at s.end.next e
+      → Gathered depth at k kind n (record { value = cond (eqb i 0) e.value (step kind s.value e.value); in_range = s.in_range && e.in_range; end = e.end }) (i + 1)
+  gathered_more depth at k kind n i s e h g p = record {
+    went = one_more_is _ n i s.end.at s.end.next e.end.at e.end.next _ _ h g.went refl p.went;
+    is = goes_on ws (patterns xs) point values (parse ws (patterns xs) (depth - 1)) kind n i s.end.at s.value s.in_range (worth e) _ _ h g.is (sym p.is) refl;
+  }
 
-    pub gathered_none : (s : Scanned) → 3 ≤ kind → s ≡ record { value = zero64; in_range = true; at = at + 1; next = first } → Gathered depth at k kind n s 0
-    gathered_none s lo r = rw r (record {
-      went = begun;
-      is = begins ws (patterns xs) point values depth at kind load n deep open_inside e f lo (rw (← e, ← f) at (open_arity at k n first head p q));
-    })
-
-    pub a_leaf_read : (s : Scanned) (v : Float) → kind < 3 → v ≡ value point values (leaf_of (patterns xs) kind load)
-        → s ≡ record { value = v; in_range = true; at = at + 1; next = first } → Scans ws xs point values depth at k s
-    a_leaf_read s v lo w r =
-        let z : n ≡ 0 = rw (← e, ← f) at (open_arity at k n first head p q) ∙ leaf_arity kind load lo in
-        read_well depth at k s (λ y. omega (arith, ap (λ x. x.at) r)) (rw r (record {
-          went = begun ∙ rw z;
-          is = sym (a_leaf ws (patterns xs) point values depth at kind load v deep open_inside e f lo w);
-        }))
-
-  pub gathered_more : (depth at k kind n i : ℕ) (s e t : Scanned) → i < n → Gathered depth at k kind n s i → Reads ws xs point values (depth - 1) s.at s.next e
-      → t ≡ record { value = cond (eqb i 0) e.value (step kind s.value e.value); in_range = s.in_range && e.in_range; at = e.at; next = e.next }
-      → Gathered depth at k kind n t (i + 1)
-  gathered_more depth at k kind n i s e t h g p q = rw q (record {
-    went = one_more_is _ n i s.at s.next e.at e.next _ _ h g.went refl p.went;
-    is = goes_on ws (patterns xs) point values (parse ws (patterns xs) (depth - 1)) kind n i s.at s.value s.in_range (worth e) _ _ h g.is (sym p.is) refl;
-  })
-
-  pub gathered_all : (depth at k kind n i : ℕ) (s t : Scanned) → n ≤ i → Gathered depth at k kind n s i
-      → t ≡ record { value = applied kind s.value; in_range = s.in_range && argument_ok kind s.value; at = s.at; next = s.next } → Scans ws xs point values depth at k t
-  gathered_all depth at k kind n i s t h g p =
-      let w : read_at depth at k ≡ Went s.at s.next = g.went ∙ many_none _ n i s.at s.next h in
-      let far = went_on ws (length xs) (length point) (length values) depth at k s.at s.next _ refl w in
-      read_well depth at k t (λ z. omega (arith, far.0, ap (λ x. x.at) p)) (rw p (record {
-        went = w;
-        is = sym (ends ws (patterns xs) point values (parse ws (patterns xs) (depth - 1)) kind n i s.at s.value s.in_range _ h g.is);
-      }))
-
-  pub gathered_wrong : (depth at k kind n i : ℕ) (s e t : Scanned) → i < n → Gathered depth at k kind n s i → Scans ws xs point values (depth - 1) s.at s.next e → e.at ≡ 0
-      → (t.at ≡ 0) × (t.next ≡ e.next) → Scans ws xs point values depth at k t
-  gathered_wrong depth at k kind n i s e t h g p z q =
-      read_wrong depth at k e.next t q (sym (one_wrong _ n i s.at s.next e.next _ _ h g.went refl (p.wrong z)))
+  pub gathered_all : (depth at k kind n i : ℕ) (s : Scanned) → n ≤ i → Gathered depth at k kind n s i
+      → Reads ws xs point values depth at k (record { value = applied kind s.value; in_range = s.in_range && argument_ok kind s.value; end = s.end })
+  gathered_all depth at k kind n i s h g = record {
+    went = g.went ∙ many_none _ n i s.end.at s.end.next h;
+    is = sym (ends ws (patterns xs) point values (parse ws (patterns xs) (depth - 1)) kind n i s.end.at s.value s.in_range _ h g.is);
+  }
 
   -- ---- at any depth that is left
 
-  pub one_level : (depth at k : ℕ) (s : Scanned) → (depth ≡ 0 → ⊥) → ((d : ℕ) → Reads ws xs point values (suc d) at k s) → Reads ws xs point values depth at k s
-  one_level zero at k s nz f = absurd (nz refl)
-  one_level (suc d) at k s nz f = f d
+  pub one_level : (depth at k : ℕ) (found : Option Scanned) → (depth ≡ 0 → ⊥) → LeafScans ws xs point values at k found → Finds ws xs point values depth at k found
+  one_level zero at k found nz f = absurd (nz refl)
+  one_level (suc d) at k (Some s) nz f = f d
+  one_level (suc d) at k None nz f = tt
 
-  pub two_levels : (depth at k : ℕ) (s : Scanned) → (depth ≡ 0 → ⊥) → (depth ≡ 1 → ⊥) → ((d : ℕ) → Reads ws xs point values (suc (suc d)) at k s) → Reads ws xs point values depth at k s
-  two_levels zero at k s nz ne f = absurd (nz refl)
-  two_levels (suc zero) at k s nz ne f = absurd (ne refl)
-  two_levels (suc (suc d)) at k s nz ne f = f d
+  pub two_levels : (depth at k : ℕ) (s : Scanned) → 1 < depth → ((d : ℕ) → Reads ws xs point values (suc (suc d)) at k s) → Reads ws xs point values depth at k s
+  two_levels zero at k s h f = absurd (omega arith)
+  two_levels (suc zero) at k s h f = absurd (omega arith)
+  two_levels (suc (suc d)) at k s h f = f d
+
+  -- ---- the exit of a `?`
+
+  pub wrong_exit : (depth at k : ℕ) (r : Result Scanned WrongWord) (e : WrongWord) → IsErrAnd r (λ y. y ≡ e) → read_at depth at k ≡ Err e → Scans ws xs point values depth at k r
+  wrong_exit depth at k (Ok s) e h w = absurd h
+  wrong_exit depth at k (Err y) e h w = w ∙ ap (λ x. Err x) (sym h)
+
+-- what it returns of a missing value
+pub missing_exit : {A : Type 0} (found : Option A) (w e : WrongWord) (r : Result A WrongWord) → r ≡ Err e → r ≡ ok_or found w → e ≡ w
+missing_exit None w e r p q = let z : e.place ≡ w.place = same_place e.place w.place (sym p ∙ q) in λ i. record { place = z i }
+missing_exit (Some a) w e r p q = let z : Err e ≡ Ok a = sym p ∙ q in absurd (cc)

@@ -10,7 +10,7 @@ use lib.ListN.{length, get_or, length-append}
 use lib.Dec.{T}
 use lib.Ieee.{Float, nan, binary64, to_bits, of_bits, fits, div}
 use lib.Ieee.Fits.{neg-fits, add-fits, sub-fits, div-fits}
-use Rattle.base.specs.declared.Fault.{Fault}
+use Rattle.base.specs.Fault.{Fault}
 use Rattle.base.specs.Fault.{fault, clear, unless, or_else}
 use Rattle.base.specs.Loop.{loop, table, each, keep}
 use Rattle.base.proofs.Firsts.{Clear}

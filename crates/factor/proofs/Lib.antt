@@ -3,4 +3,3 @@ pub mod Fine
 pub mod Factors
 pub mod Turns
 pub mod Chain
-pub mod Refusal

@@ -1,11 +1,13 @@
 -- One turn of each loop of refusal 11: what the records say is what the definitions look at, and the next place.
-use mathlib.Core.Path.{◌≡◌, ap, ◌∙◌}
+use mathlib.Core.Path.{◌≡◌, refl, ap, ◌∙◌}
 use mathlib.Core.Bool.{Bool, true, false, cond, not, ◌||◌}
 use mathlib.Core.List.{List}
+use lib.ListN.{length}
 use Prim.Native.Nat.{ℕ, suc, ◌+◌, ◌-◌, ◌*◌, ◌<◌, ◌≤◌}
 use native.Mathlib.Omega.{arith}
 use lib.Ieee.{Float, neg}
-use Rattle.base.specs.declared.Fault.{Fault}
+use Rattle.base.specs.Fault.{Fault}
+use Rattle.lists.specs.internal.From.{non_finite_from}
 use Rattle.base.specs.Fault.{fault, unless}
 use Rattle.base.specs.Refusal.{FACTOR}
 use Rattle.base.proofs.Firsts.{Proper, or_proper, unless_proper, first_proper}
@@ -15,7 +17,7 @@ use Rattle.network.specs.Network.{curved, curve_at, epigraphs_before, epigraph_c
 use Rattle.network.specs.declared.layout.Layout.{Layout}
 use Rattle.network.specs.declared.records.Generator.{Generator}
 use Rattle.network.specs.declared.records.Branch.{Branch}
-use Rattle.network.specs.Layout.{Laid}
+use Rattle.network.specs.Layout.{Laid, branch_record}
 use Rattle.network.specs.internal.Records.{GeneratorRead, BranchRead}
 use Rattle.acopf.specs.Columns.{pg_lower, pg_upper, pg_start, epigraph_start}
 use Rattle.piecewise_cost.specs.Curve.{evaluate}
@@ -39,6 +41,14 @@ curve_proper ws xs start g = first_proper _ _ (λ s. or_proper _ _ (unless_prope
 pub coefficients_proper : (cs : List Float) (place : ℕ) → Proper (coefficients_fault cs place)
 unfolding coefficients_fault
 coefficients_proper cs place = first_proper _ _ (λ c. unless_proper _ FACTOR _ (omega arith))
+
+twelve_of : (r : Branch) → length (coefficients_of r) ≡ 12
+unfolding coefficients_of
+twelve_of r = refl
+
+twelve_fault : (cs : List Float) (place : ℕ) → length cs ≡ 12 → non_finite_from FACTOR place cs ≡ coefficients_fault cs place
+unfolding non_finite_from coefficients_fault
+twelve_fault cs place h = rw h
 
 -- ---- over the layout
 
@@ -72,8 +82,8 @@ module _ {ws : List ℕ} {xs : List Float} {l : Layout} where
       go false = c
 
   pub coefficients_read : (place : ℕ) {b : ℕ} {r : Branch} {cs : List Float} → BranchRead ws xs l b r → cs ≡ coefficients_of r
-      → coefficients_fault cs place ≡ coefficients_fault (coefficients ws xs b) place
-  coefficients_read place B e = rw (e, B.is)
+      → non_finite_from FACTOR place cs ≡ coefficients_fault (coefficients ws xs b) place
+  coefficients_read place {b} {r} {cs} B e = rw (e, B.is) (twelve_fault (coefficients ws xs b) place (twelve_of (branch_record ws xs b)))
 
 -- a segment that has rows lies in its curve
 pub segment_fits : (on : Bool) {count s p : ℕ} → count ≡ cond on (p - 1) 0 → s < count → s + 2 ≤ p

@@ -4,4 +4,4 @@
 mod factor;
 mod first;
 
-pub use first::{Judged, judge, network_fault};
+pub use first::judge;

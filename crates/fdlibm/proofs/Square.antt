@@ -9,7 +9,7 @@ use borrow.Author.Tests.{leb-true, ltb-true, ltb-false, eqb-true}
 use Rattle.fdlibm.specs.declared.e_sqrt.Root.{Root}
 use Rattle.fdlibm.specs.Sqrt.{next_bit, bit_by_bit, start, rounded, root_of, even_exponent}
 use Rattle.fdlibm.specs.internal.Near.{Near}
-use Rattle.fdlibm.proofs.Turns.{Good, good_start, good_step}
+use Rattle.fdlibm.proofs.Turns.{Good, good_start, good_step, turns, one_more_is}
 
 -- q is n's root, rounded down
 pub record Floor (n q : ℕ) : Type 0 where
@@ -37,20 +37,6 @@ sq_twice a =
 pub sq_odd : (a : ℕ) → (2 * a + 1) * (2 * a + 1) ≡ 4 * (a * a) + 4 * a + 1
 sq_odd a = let e = sq_suc (2 * a) in let f = sq_twice a in omega arith
 
-pub lt_of_sq : (a b : ℕ) → a * a < b * b → a < b
-lt_of_sq a b h = go (ltb a b) refl
-  where
-    go : (t : Bool) → ltb a b ≡ t → a < b
-    go true e = ltb-true a b e
-    go false e = let l = ltb-false a b e in let m = mul-le-mul l l in absurd (omega arith)
-
--- the root rounded down is one number
-pub floor_unique : (n p q : ℕ) → Floor n p → Floor n q → p ≡ q
-floor_unique n p q f g =
-    let a = lt_of_sq p (q + 1) (let x = f.low in let y = g.high in omega arith) in
-    let b = lt_of_sq q (p + 1) (let x = g.low in let y = f.high in omega arith) in
-    omega arith
-
 -- ---- the turns
 -- with k turns left: what is left, and the square of what was found, make up the whole
 abbrev Whole : ℕ → Root → ℕ → Type 0
@@ -67,24 +53,18 @@ taken q P j =
     let g : j * 2 * P ≡ 2 * (j * P) = simp (mul_comm, mul_left_comm, mul_assoc) in
     omega arith
 
-whole_step : (k r n : ℕ) (v : Root) → Good (suc k) r v → Whole (suc k) v n → Whole k (next_bit r v) n
-whole_step k r n v g w = go (leb (v.s + r) v.ix) refl
+whole_step : (k n : ℕ) (v : Root) → Good (suc k) v → Whole (suc k) v n → Whole k (next_bit (2 ^ k) v) n
+whole_step k n v g w = go (leb (v.s + 2 ^ k) v.ix) refl
   where
-    p : 2 ^ suc k ≡ 2 ^ k * 2
-    p = pow-suc 2 k
-
-    is : r ≡ 2 ^ k
-    is = let e = g.bit in let f = p in omega arith
-
     w' : v.ix * (2 ^ k * 2) + 2 * (v.q * v.q) ≡ n
-    w' = rw p at w
+    w' = rw (pow-suc 2 k) at w
 
-    go : (b : Bool) → leb (v.s + r) v.ix ≡ b → Whole k (next_bit r v) n
+    go : (b : Bool) → leb (v.s + 2 ^ k) v.ix ≡ b → Whole k (next_bit (2 ^ k) v) n
     go true e =
-        let l = leb-true (v.s + r) v.ix e in
+        let l = leb-true (v.s + 2 ^ k) v.ix e in
         let j = v.ix - (v.s + 2 ^ k) in
-        let x : v.q * 2 + 2 ^ k + j ≡ v.ix = let h = is in let t = g.twice in omega arith in
-        rw (e, is) (taken v.q (2 ^ k) j ∙ ap (λ (y : ℕ). y * (2 ^ k * 2) + 2 * (v.q * v.q)) x ∙ w')
+        let x : v.q * 2 + 2 ^ k + j ≡ v.ix = let t = g.twice in omega arith in
+        rw e (taken v.q (2 ^ k) j ∙ ap (λ (y : ℕ). y * (2 ^ k * 2) + 2 * (v.q * v.q)) x ∙ w')
     go false e =
         let a = mul_assoc v.ix 2 (2 ^ k) in
         let b = mul_comm 2 (2 ^ k) in
@@ -95,17 +75,17 @@ pub record Left (n : ℕ) (v : Root) : Type 0 where
   pub whole : v.ix + 2 * (v.q * v.q) ≡ n
   pub less : v.ix < 4 * v.q + 2
 
-through : (k r n : ℕ) (v : Root) → Good k r v → Whole k v n → Left n (bit_by_bit k r v)
+through : (k n : ℕ) (v : Root) → Good k v → Whole k v n → Left n (turns k v)
 unfolding bit_by_bit
-through zero r n v g w =
+through zero n v g w =
     let a = g.rest in
     let b = g.twice in
     record { whole = omega arith; less = omega arith }
-through (suc k) r n v g w = through k (r / 2) n (next_bit r v) (good_step k r v g) (whole_step k r n v g w)
+through (suc k) n v g w = rw (one_more_is k v) (through k n (next_bit (2 ^ k) v) (good_step k v g) (whole_step k n v g w))
 
 -- the 54 turns from x: q is the root of x * 2 ^ 53, rounded down, and ix twice what q * q lacks of it
 pub turns_left : (x : ℕ) → x < 2 ^ 55 → Left (x * 2 ^ 54) (bit_by_bit 54 (2 ^ 53) (start x))
-turns_left x h = through 54 (2 ^ 53) (x * 2 ^ 54) (start x) (good_start x h) (omega arith)
+turns_left x h = through 54 (x * 2 ^ 54) (start x) (good_start x h) (omega arith)
 
 left_floor : (n : ℕ) (v : Root) → Left (2 * n) v → Floor n v.q
 left_floor n v l =
@@ -113,12 +93,6 @@ left_floor n v l =
     let b = l.less in
     let c = sq_suc v.q in
     record { low = omega arith; high = omega arith }
-
-pub turns_floor : (x : ℕ) → x < 2 ^ 55 → Floor (x * 2 ^ 53) (bit_by_bit 54 (2 ^ 53) (start x)).q
-turns_floor x h =
-    let v = bit_by_bit 54 (2 ^ 53) (start x) in
-    let e : x * 2 ^ 54 ≡ 2 * (x * 2 ^ 53) = omega arith in
-    left_floor (x * 2 ^ 53) v (subst (λ (n : ℕ). Left n v) e (turns_left x h))
 
 -- ---- the rounding
 -- no root of 4 * m is odd

@@ -41,6 +41,7 @@ fn when_close(a: f64, b: f64, ha: u64, hb: u64) -> f64
     sqrt(t1 * y1 - (w * (-w) - (t1 * y2 + t2 * b)))
 }
 
+#[tactic(auto, unfolding(crate::specs::Hypot::scaled))]
 fn rescaled(k: u64, w: f64) -> f64
     requires { k < 2048 }
     ensures { result ≡ scaled k w }
@@ -52,41 +53,40 @@ fn rescaled(k: u64, w: f64) -> f64
     }
 }
 
+#[tactic(auto, unfolding(crate::specs::Hypot::middle))]
 fn of_medium(k: u64, a: f64, b: f64, ha: u64, hb: u64) -> f64
     requires { (k < 2048) × (ha + 0x0010_0000 < 2 ^ 32) × (hb < 2 ^ 32) }
     ensures { result ≡ middle k a b ha hb }
 {
     let w = a - b;
-    if w > b {
-        rescaled(k, when_wide(a, b, ha))
+    let root = if w > b {
+        when_wide(a, b, ha)
     } else {
-        rescaled(k, when_close(a, b, ha, hb))
-    }
+        when_close(a, b, ha, hb)
+    };
+    rescaled(k, root)
 }
 
+#[tactic(auto, unfolding(crate::specs::Hypot::small))]
 fn of_small(k: u64, a: f64, b: f64, ha: u64, hb: u64) -> f64
     requires { (k < 2048) × (1022 ≤ k) × (ha < 2 ^ 31) × (hb < 2 ^ 31) }
     ensures { result ≡ small k a b ha hb }
 {
-    if hb < 0x20b0_0000 {
-        if hb <= 0x000f_ffff {
-            let n = float::to_bits(b);
-            if n == 0 {
-                a
-            } else {
-                let t = from_high_word(0x7fd0_0000);
-                of_medium(k - 1022, a * t, b * t, ha, hb)
-            }
-        } else {
-            let pa = ha + 0x2580_0000;
-            let pb = hb + 0x2580_0000;
-            of_medium(k - 600, set_high_word(a, pa), set_high_word(b, pb), pa, pb)
-        }
-    } else {
+    if hb >= 0x20b0_0000 {
         of_medium(k, a, b, ha, hb)
+    } else if hb > 0x000f_ffff {
+        let pa = ha + 0x2580_0000;
+        let pb = hb + 0x2580_0000;
+        of_medium(k - 600, set_high_word(a, pa), set_high_word(b, pb), pa, pb)
+    } else if float::to_bits(b) == 0 {
+        a
+    } else {
+        let t = from_high_word(0x7fd0_0000);
+        of_medium(k - 1022, a * t, b * t, ha, hb)
     }
 }
 
+#[tactic(auto, unfolding(crate::specs::Hypot::endless))]
 fn of_endless(a: f64, b: f64) -> f64
     ensures { result ≡ endless a b }
 {
@@ -102,26 +102,25 @@ fn of_endless(a: f64, b: f64) -> f64
     }
 }
 
+#[tactic(auto, unfolding(crate::specs::Hypot::ordered))]
 fn in_order(a: f64, b: f64, ha: u64, hb: u64) -> f64
     requires { (hb ≤ ha) × (ha < 2 ^ 31) }
     ensures { result ≡ ordered a b ha hb }
 {
-    let d = ha - hb;
-    if d > 0x3c0_0000 {
+    if ha - hb > 0x3c0_0000 {
         a + b
+    } else if ha >= 0x7ff0_0000 {
+        of_endless(a, b)
     } else if ha > 0x5f30_0000 {
-        if ha >= 0x7ff0_0000 {
-            of_endless(a, b)
-        } else {
-            let pa = ha - 0x2580_0000;
-            let pb = hb - 0x2580_0000;
-            of_small(1623, set_high_word(a, pa), set_high_word(b, pb), pa, pb)
-        }
+        let pa = ha - 0x2580_0000;
+        let pb = hb - 0x2580_0000;
+        of_small(1623, set_high_word(a, pa), set_high_word(b, pb), pa, pb)
     } else {
         of_small(1023, a, b, ha, hb)
     }
 }
 
+#[tactic(auto, unfolding(crate::specs::Hypot::hypotenuse))]
 pub fn hypot(x: f64, y: f64) -> f64
     ensures { result ≡ hypotenuse x y }
 {

@@ -1,7 +1,7 @@
 // fdlibm's __ieee754_rem_pio2 up to 2^19*pi/2: x less a multiple of pi/2, in two parts, with the multiple's last two bits.
-ghost use Rattle.std.specs.Prelude.{◌≡◌, ◌<◌, ◌-◌, get_or};
+ghost use Rattle.std.specs.Prelude.{◌≡◌, cond, ◌<◌, ◌-◌, get_or};
 ghost use Rattle.fdlibm.specs.RemPio2.{two_parts, third_iteration, exponent_field, second_iteration, npio2_hw, no_cancellation};
-ghost use Rattle.fdlibm.specs.RemPio2.{first_iteration, medium, near_positive, two_parts_negative, near_negative, signed, rem_pio2};
+ghost use Rattle.fdlibm.specs.RemPio2.{first_iteration, medium, near_positive, near_negative, signed, rem_pio2};
 
 // The high words of n*pi/2, n from 1 to 32.
 const NPIO2_HW: [u64; 32] = [
@@ -54,6 +54,7 @@ fn exponent_field(y: f64) -> u64
     (float::high_word(y) >> 20) % 2048
 }
 
+#[tactic(auto, unfolding(crate::specs::RemPio2::second_iteration))]
 fn second_iteration(j: u64, n: u64, f: f64, t: f64) -> Reduced
     ensures { result ≡ second_iteration j n f t }
 {
@@ -71,35 +72,28 @@ fn multiple_hw(n: u64) -> u64
     requires { n < 32 }
     ensures { result ≡ get_or npio2_hw (n - 1) 0 }
 {
-    if n < 1 {
-        NPIO2_HW[0]
-    } else {
-        let k = n - 1;
-        NPIO2_HW[k as usize]
-    }
+    NPIO2_HW[n.saturating_sub(1) as usize]
 }
 
+#[tactic(auto, unfolding(crate::specs::RemPio2::no_cancellation))]
 fn no_cancellation(n: u64, ix: u64) -> bool
     ensures { result ≡ no_cancellation n ix }
 {
-    if n < 32 { ix != multiple_hw(n) } else { false }
+    n < 32 && ix != multiple_hw(n)
 }
 
+#[tactic(auto, unfolding(crate::specs::RemPio2::first_iteration))]
 fn first_iteration(ix: u64, t: f64, n: u64) -> Reduced
     ensures { result ≡ first_iteration ix t n }
 {
     let f = float::from_whole(n);
     let r = t - f * PIO2_1;
     let w = f * PIO2_1T;
-    if no_cancellation(n, ix) {
-        two_parts(n, r, w)
+    let j = ix >> 20;
+    if !no_cancellation(n, ix) && exponent_field(r - w) + 16 < j {
+        second_iteration(j, n, f, r)
     } else {
-        let j = ix >> 20;
-        if exponent_field(r - w) + 16 < j {
-            second_iteration(j, n, f, r)
-        } else {
-            two_parts(n, r, w)
-        }
+        two_parts(n, r, w)
     }
 }
 
@@ -112,66 +106,45 @@ pub fn medium(x: f64) -> Reduced
     first_iteration(ix, t, n)
 }
 
-fn near_positive(ix: u64, x: f64) -> Reduced
-    ensures { result ≡ near_positive ix x }
+// |x| below 3pi/4: n is 1, or -1, whose last two bits are 3. A factor of 1 or -1 rounds nothing.
+fn near<const NEGATIVE: bool>(ix: u64, x: f64) -> Reduced
+    ensures { result ≡ cond NEGATIVE (near_negative ix x) (near_positive ix x) }
 {
-    let z = x - PIO2_1;
+    let (n, sign) = if NEGATIVE { (3, -1.0) } else { (1, 1.0) };
+    let z = x - sign * PIO2_1;
     if ix == 0x3ff9_21fb {
-        two_parts(1, z - PIO2_2, PIO2_2T)
+        two_parts(n, z - sign * PIO2_2, sign * PIO2_2T)
     } else {
-        two_parts(1, z, PIO2_1T)
+        two_parts(n, z, sign * PIO2_1T)
     }
 }
 
-fn two_parts_negative(z: f64, w: f64) -> Reduced
-    ensures { result ≡ two_parts_negative z w }
+#[tactic(auto, unfolding(crate::specs::RemPio2::signed))]
+fn with_sign(negative: bool, v: Reduced) -> Reduced
+    ensures { result ≡ signed negative v }
 {
-    let y0 = z + w;
-    let y1 = (z - y0) + w;
-    Reduced { q: 3, y0, y1 }
-}
-
-fn near_negative(ix: u64, x: f64) -> Reduced
-    ensures { result ≡ near_negative ix x }
-{
-    let z = x + PIO2_1;
-    if ix == 0x3ff9_21fb {
-        two_parts_negative(z + PIO2_2, PIO2_2T)
-    } else {
-        two_parts_negative(z, PIO2_1T)
-    }
-}
-
-fn with_sign(s: bool, v: Reduced) -> Reduced
-    ensures { result ≡ signed s v }
-{
-    if s {
+    let q = v.q % 4;
+    if negative {
         Reduced {
-            q: (4 - v.q % 4) % 4,
+            q: (4 - q) % 4,
             y0: -v.y0,
             y1: -v.y1,
         }
     } else {
-        Reduced {
-            q: v.q % 4,
-            y0: v.y0,
-            y1: v.y1,
-        }
+        Reduced { q, ..v }
     }
 }
 
+#[tactic(auto, unfolding(crate::specs::RemPio2::rem_pio2))]
 pub fn rem_pio2(x: f64) -> Reduced
     ensures { result ≡ rem_pio2 x }
 {
     let hx = float::high_word(x);
     let ix = hx % 0x8000_0000;
-    if ix < 0x4002_d97c {
-        if hx >= 0x8000_0000 {
-            near_negative(ix, x)
-        } else {
-            near_positive(ix, x)
-        }
-    } else {
-        with_sign(hx >= 0x8000_0000, medium(x))
+    let negative = hx >= 0x8000_0000;
+    match (ix < 0x4002_d97c, negative) {
+        (true, true) => near::<true>(ix, x),
+        (true, false) => near::<false>(ix, x),
+        (false, _) => with_sign(negative, medium(x)),
     }
 }

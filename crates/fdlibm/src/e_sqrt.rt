@@ -14,19 +14,14 @@ fn next_bit(r: u64, v: Root) -> Root
     ensures { result ≡ next_bit r v }
 {
     let t = v.s + r;
-    let ix = v.ix;
-    if t <= ix {
+    if t <= v.ix {
         Root {
             s: t + r,
-            ix: (ix - t) * 2,
+            ix: (v.ix - t) * 2,
             q: v.q + r,
         }
     } else {
-        Root {
-            s: v.s,
-            ix: ix * 2,
-            q: v.q,
-        }
+        Root { ix: v.ix * 2, ..v }
     }
 }
 
@@ -36,12 +31,8 @@ fn all_bits(ix: u64) -> Root
     ensures q_bound { result.q < 2 ^ 54 }
 {
     let mut v = Root { s: 0, ix, q: 0 };
-    let mut r: u64 = 0x20_0000_0000_0000;
-    let mut i: u64 = 0;
-    while i < 54 {
-        v = next_bit(r, v);
-        r = r / 2;
-        i += 1;
+    for place in (0..54u32).rev() {
+        v = next_bit(1 << place, v);
     }
     v
 }
@@ -51,9 +42,7 @@ fn rounding(v: Root) -> u64
     ensures value { result ≡ rounded v }
     ensures upper_bound { result ≤ 2 ^ 54 }
 {
-    let q = v.q;
-    let ix = v.ix;
-    if ix == 0 { q } else { q + q % 2 }
+    if v.ix == 0 { v.q } else { v.q + v.q % 2 }
 }
 
 pub(crate) fn even_exponent(m: u64, e: u64) -> u64
@@ -61,8 +50,7 @@ pub(crate) fn even_exponent(m: u64, e: u64) -> u64
     ensures value { result ≡ even_exponent m e }
     ensures upper_bound { result < 2 ^ 54 }
 {
-    let o = e % 2;
-    if o == 1 { m * 2 } else { m }
+    if e % 2 == 1 { m * 2 } else { m }
 }
 
 fn root_of(m: u64, e: u64) -> u64
@@ -74,24 +62,15 @@ fn root_of(m: u64, e: u64) -> u64
 
 // A subnormal's significand, moved up to 2^52.
 fn subnormal(f: u64) -> u64
-    requires { f < 2 ^ 52 }
+    requires { (0 < f) × (f < 2 ^ 52) }
     ensures { result ≡ normalized 52 f 1022 }
 {
-    let mut m = f;
-    let mut e: u64 = 1022;
-    let mut i: u64 = 0;
-    while i < 52 {
-        if m < 0x10_0000_0000_0000 {
-            m = m * 2;
-            e = e - 1;
-        }
-        i += 1;
-    }
-    root_of(m, e)
+    let places = f.leading_zeros() - 11;
+    root_of(f << places, 1022 - u64::from(places))
 }
 
 fn root_bits(b: u64) -> u64
-    requires { b < 2 ^ 63 }
+    requires { (0 < b) × (b < 2 ^ 63) }
     ensures { result ≡ root_bits b }
 {
     let e = b / 0x10_0000_0000_0000;
@@ -103,15 +82,14 @@ fn root_bits(b: u64) -> u64
     }
 }
 
+#[tactic(auto, unfolding(crate::specs::Sqrt::square_root))]
 pub fn sqrt(x: f64) -> f64
     ensures { result ≡ square_root x }
 {
     let b = float::to_bits(x);
-    let e = b / 0x10_0000_0000_0000 % 2048;
-    let a = b % 0x8000_0000_0000_0000;
-    if e == 0x7ff {
+    if b / 0x10_0000_0000_0000 % 2048 == 0x7ff {
         x * x + x
-    } else if a == 0 {
+    } else if b % 0x8000_0000_0000_0000 == 0 {
         x
     } else if b >= 0x8000_0000_0000_0000 {
         (x - x) / (x - x)

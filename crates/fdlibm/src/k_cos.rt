@@ -30,6 +30,7 @@ fn cos_qx(ix: u64) -> f64
 }
 
 // Cosine of x + y from -pi/4 to pi/4, y the tail of x.
+#[tactic(auto, unfolding(crate::specs::Kernel::kernel_cos))]
 pub fn kernel_cos(x: f64, y: f64) -> f64
     ensures { result ≡ kernel_cos x y }
 {

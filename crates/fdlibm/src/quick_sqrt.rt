@@ -1,7 +1,9 @@
 // The square root from a guess by float arithmetic that whole numbers correct and check; the bitwise root answers where they can not.
-ghost use Rattle.std.specs.Prelude.{◌≡◌, ◌⊎◌, ℕ, ◌+◌, ◌*◌, ◌<◌, ◌≤◌, ◌/◌, ◌%◌, ◌^◌};
+ghost use Rattle.std.specs.Prelude.{◌≡◌, ℕ, ◌+◌, ◌*◌, ◌<◌, ◌≤◌, ◌/◌, ◌%◌, ◌^◌, pos, ◌-ℤ◌, IfSome};
 ghost use Rattle.fdlibm.specs.Sqrt.{square_root};
 ghost use Rattle.fdlibm.specs.internal.Near.{Near};
+
+use crate::e_sqrt;
 
 // A guess of the root of the number from 1 below 4 whose pattern is 1.0's and n. Nothing is claimed of it: settled() checks it.
 // A first guess of 1/sqrt(z) from the halved pattern, three of Newton's steps, and one for the root itself bring it mostly within an ulp.
@@ -19,90 +21,53 @@ fn guess(n: u64) -> f64
     s + 0.5 * y * (z - s * s)
 }
 
-// d * 2^52 + p - p * p + 2^55, or 0.
-fn excess(d: u64, p: u64) -> u64
+// What the square of p lacks of d * 2^52, where that fits.
+fn rest(d: u64, p: u64) -> Option<i64>
     requires { (d < 2 ^ 54) × (p < 2 ^ 54) }
-    ensures p_value { (result ≡ 0 → ⊥) → result + p * p ≡ d * 2 ^ 52 + p + 2 ^ 55 }
-    ensures upper_bound { result < 2 ^ 63 }
+    ensures { IfSome result (λ r. r ≡ pos (d * 2 ^ 52) -ℤ pos (p * p)) }
 {
-    let a = p / 0x400_0000;
-    let c = p % 0x400_0000;
-    let q = a * a;
-    let g = d + 8;
-    if q > g {
-        return 0;
-    }
-    let u = g - q;
-    if u >= 0x40_0000_0000 {
-        return 0;
-    }
-    let l = u * 0x200_0000;
-    let k = a * c;
-    if k > l {
-        return 0;
-    }
-    let v = l - k;
-    if v >= 0x8_0000_0000 {
-        return 0;
-    }
-    let s = c * c;
-    if s > p {
-        return 0;
-    }
-    v * 0x800_0000 + (p - s)
+    let square = i128::from(p) * i128::from(p);
+    i64::try_from(i128::from(d) * 0x10_0000_0000_0000 - square).ok()
 }
 
-fn above(a: u64, b: u64) -> u64
-    ensures { ((result ≡ 1) × (b < a)) ⊎ ((result ≡ 0) × (a ≤ b)) }
+// The number nearest to the root of d * 2^52, where that is p or a neighbour of p: p itself where the rest is above -p and at most p.
+fn settled(d: u64, p: u64) -> Option<u64>
+    requires { (d < 2 ^ 54) × (p < 2 ^ 54) }
+    ensures { IfSome result (λ w. Near (d * 2 ^ 52) w × (w ≤ 2 ^ 54)) }
 {
-    if a > b { 1 } else { 0 }
+    let rest = rest(d, p)?;
+    let margin = p as i64;
+    if rest <= 2 - margin * 3 || rest > margin * 3 + 2 {
+        None
+    } else if rest > margin {
+        Some(p + 1)
+    } else if rest <= -margin {
+        Some(p - 1)
+    } else {
+        Some(p)
+    }
 }
 
-// The number nearest to the root of d * 2^52 where that is p or a neighbour of p; otherwise 0.
-fn settled(d: u64, p: u64) -> u64
-    requires { (d < 2 ^ 54) × (p < 2 ^ 54) }
-    ensures near { (result ≡ 0 → ⊥) → Near (d * 2 ^ 52) result }
-    ensures upper_bound { result ≤ 2 ^ 54 }
+// The root, where a guess settles it.
+fn quick(x: f64) -> Option<f64>
+    ensures { IfSome result (λ r. r ≡ square_root x) }
 {
-    let t = excess(d, p);
-    if t + p * 2 <= 0x80_0000_0000_0002 {
-        return 0;
+    let b = float::to_bits(x);
+    if !(0x10_0000_0000_0000..0x7ff0_0000_0000_0000).contains(&b) {
+        return None;
     }
-    if t > p * 4 + 0x80_0000_0000_0002 {
-        return 0;
-    }
-    let up = above(t, p * 2 + 0x80_0000_0000_0000);
-    let down = above(0x80_0000_0000_0001, t);
-    p + up - down
+    let s = guess((b - 0x10_0000_0000_0000) % 0x20_0000_0000_0000);
+    // the significand, where s is from 1/2 below 4: 2^52 at 1
+    let p = (float::to_bits(s) % 0x40_0000_0000_0000 + 0x20_0000_0000_0000) % 0x40_0000_0000_0000;
+    let e = b / 0x10_0000_0000_0000 + 1021;
+    let m = b % 0x10_0000_0000_0000 + 0x10_0000_0000_0000;
+    let w = settled(e_sqrt::even_exponent(m, e), p)?;
+    Some(f64::from_bits(w + e / 2 * 0x10_0000_0000_0000))
 }
 
 // The definition again. Where a guess could not be checked, the bitwise root answers.
 pub fn sqrt(x: f64) -> f64
     ensures { result ≡ square_root x }
 {
-    if x != x {
-        return crate::e_sqrt::sqrt(x);
-    }
-    let b = f64::to_bits(x);
-    if b < 0x10_0000_0000_0000 {
-        return crate::e_sqrt::sqrt(x);
-    }
-    if b >= 0x7ff0_0000_0000_0000 {
-        return crate::e_sqrt::sqrt(x);
-    }
-    let s = guess((b - 0x10_0000_0000_0000) % 0x20_0000_0000_0000);
-    if s != s {
-        return crate::e_sqrt::sqrt(x);
-    }
-    // the significand, where s is from 1/2 below 4: 2^52 at 1
-    let p = (f64::to_bits(s) % 0x40_0000_0000_0000 + 0x20_0000_0000_0000) % 0x40_0000_0000_0000;
-    let e = b / 0x10_0000_0000_0000 + 1021;
-    let w = settled(
-        crate::e_sqrt::even_exponent(b % 0x10_0000_0000_0000 + 0x10_0000_0000_0000, e),
-        p,
-    );
-    if w == 0 {
-        return crate::e_sqrt::sqrt(x);
-    }
-    f64::from_bits(w + e / 2 * 0x10_0000_0000_0000)
+    quick(x).unwrap_or_else(|| e_sqrt::sqrt(x))
 }

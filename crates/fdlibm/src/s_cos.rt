@@ -5,21 +5,19 @@ use crate::e_rem_pio2::{Reduced, rem_pio2};
 use crate::k_cos::kernel_cos;
 use crate::k_sin::kernel_sin;
 
+#[tactic(auto, unfolding(crate::specs::Trig::cos_reduced))]
 fn cos_reduced(v: Reduced) -> f64
     ensures { result ≡ cos_reduced v }
 {
-    let q = v.q;
-    if q == 0 {
-        kernel_cos(v.y0, v.y1)
-    } else if q == 1 {
-        -kernel_sin(v.y0, v.y1, true)
-    } else if q == 2 {
-        -kernel_cos(v.y0, v.y1)
-    } else {
-        kernel_sin(v.y0, v.y1, true)
+    match v.q {
+        0 => kernel_cos(v.y0, v.y1),
+        1 => -kernel_sin(v.y0, Some(v.y1)),
+        2 => -kernel_cos(v.y0, v.y1),
+        _ => kernel_sin(v.y0, Some(v.y1)),
     }
 }
 
+#[tactic(auto, unfolding(crate::specs::Trig::cosine))]
 pub fn cos(x: f64) -> f64
     ensures { result ≡ cosine x }
 {

@@ -1,14 +1,14 @@
 -- Laws of the first number that is not finite: in the front of a list, and in lists one after the other.
-use mathlib.Core.Path.{◌≡◌, ap, sym}
+use mathlib.Core.Path.{◌≡◌, refl, ap, sym}
 use mathlib.Core.Logic.{◌↔◌}
 use mathlib.Core.List.{List, ◌++◌}
-use Prim.Native.Nat.{ℕ, zero, suc, ◌+◌, ◌<◌, ◌≤◌}
+use Prim.Native.Nat.{ℕ, zero, suc, ◌+◌, ◌<◌}
 use native.Mathlib.Nat.{zero-add, add-zero}
 use native.Mathlib.Omega.{arith}
 use lib.Ieee.{Float, nan}
-use lib.ListN.{length, get_or, take, length-append, get_or-append}
-use lib.Seq.{get_or-take, get_or-append-add, length-take-le}
-use Rattle.base.specs.declared.Fault.{Fault}
+use lib.ListN.{length, get_or, length-append, get_or-append}
+use lib.Seq.{get_or-append-add}
+use Rattle.base.specs.Fault.{Fault}
 use Rattle.base.specs.Fault.{fault, unless, or_else, first}
 use Rattle.base.specs.Loop.{loop}
 use Rattle.base.proofs.Firsts.{Clear, Proper, unless_proper, first_proper, unless_true, unless_clear, first_clear, all_clear}
@@ -40,11 +40,10 @@ module _ (number from : ℕ) where
             (λ i l. let q : from + (length a + i) ≡ next + i = omega arith in rw (get_or-append-add a b i nan, q)),
       )
 
-  -- the front of a list
-  pub non_finite_front : (l : List Float) (count : ℕ) → count ≤ length l
-      → first count (λ i. unless (is_finite (get_or l i nan)) (fault number (from + i))) ≡ non_finite_from number from (take count l)
+  -- a whole list
+  pub non_finite_whole : (l : List Float) → first (length l) (λ i. unless (is_finite (get_or l i nan)) (fault number (from + i))) ≡ non_finite_from number from l
   unfolding non_finite_from
-  non_finite_front l count h = rw (length-take-le count l h) (first_same count _ _ (λ i q. rw (get_or-take count l i nan q)))
+  non_finite_whole l = refl
 
 -- from place 0
 pub non_finite_zero : (number : ℕ) (l : List Float) → non_finite_from number 0 l ≡ first_non_finite number l

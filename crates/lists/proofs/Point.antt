@@ -3,8 +3,7 @@ use mathlib.Core.Path.{◌≡◌, ap, sym}
 use mathlib.Core.List.{List}
 use Prim.Native.Nat.{ℕ}
 use native.Mathlib.Omega.{arith}
-use lib.ListN.{length, get_or, take}
-use lib.Seq.{take-length}
+use lib.ListN.{length, get_or}
 use lib.Dec.{eqb}
 use lib.Ieee.{Float, nan}
 use borrow.Author.Tests.{eqb-true, eq-eqb, ne_eqb}
@@ -41,5 +40,5 @@ module _ (x : List Float) (columns : ℕ) where
   point_given c = eqb-true _ _ (unless_true _ POINT columns (omega arith) (or_left _ _ c))
 
   -- what the code looks at, where the length is right
-  pub point_rest : length x ≡ columns → non_finite_from POINT 0 (take columns x) ≡ point_fault x columns
-  point_rest e = rw (← e, take-length, non_finite_zero POINT x) (sym (rw (← e) at (right_length e)))
+  pub point_rest : length x ≡ columns → non_finite_from POINT 0 x ≡ point_fault x columns
+  point_rest e = rw (non_finite_zero POINT x) (sym (right_length e))

@@ -1,7 +1,7 @@
 -- The first number of a list that is not finite, which 11, 13 and 15 look for, and refusal 13.
 use Rattle.std.specs.Prelude.{ℕ, List, eqb, length, get_or, Float}
 use Rattle.std.specs.Float.{nan}
-use Rattle.base.specs.declared.Fault.{Fault}
+use Rattle.base.specs.Fault.{Fault}
 use Rattle.base.specs.Fault.{fault, unless, or_else, first}
 use Rattle.base.specs.Refusal.{POINT}
 use Rattle.float.specs.Number.{is_finite}

@@ -2,50 +2,46 @@
 #![tactic(auto)]
 
 ghost use Rattle.std.specs.Prelude.{◌≡◌, ◌++◌, ◌+◌, ◌<◌, ◌≤◌, length, take, drop};
+ghost use Rattle.base.specs.Fault.{fault_of};
+ghost use Rattle.base.specs.Refusal.{number_of};
 ghost use Rattle.lists.specs.Finite.{point_fault};
 ghost use Rattle.lists.specs.internal.From.{non_finite_from};
 
-use base::{Fault, refusal};
+use base::{Reason, Refusal};
 
-// The first of the list's first `count` numbers that is not finite; its place is counted from `from` on.
-pub fn first_non_finite(list: &[f64], count: usize, number: u32, from: usize) -> Fault
-    requires { (count ≤ length list.now) × (0 < number) × (from + count < 0xffff_ffff_ffff_ffff) }
-    ensures { result ≡ non_finite_from number from (take count list.now) }
+// The first of the list's numbers that is not finite; its place is counted from `from` on.
+pub fn first_non_finite(list: &[f64], reason: Reason, from: usize) -> Result<(), Refusal>
+    requires { from + length list.now < 0xffff_ffff_ffff_ffff }
+    ensures { fault_of result ≡ non_finite_from (number_of reason) from list.now }
 {
-    let mut i = 0usize;
-    while i < count {
-        if !float::is_finite(list[i]) {
-            return Fault {
-                number,
+    for (i, x) in list.iter().enumerate() {
+        if !float::is_finite(*x) {
+            return Err(Refusal {
+                reason,
                 place: from + i,
-            };
+            });
         }
-        i += 1;
     }
-    refusal::CLEAR
+    Ok(())
 }
 
 // 13, where there are so many columns.
-pub fn point_fault(point: &[f64], columns: usize) -> Fault
-    ensures { result ≡ point_fault point.now columns }
+pub fn point_fault(point: &[f64], columns: usize) -> Result<(), Refusal>
+    ensures { fault_of result ≡ point_fault point.now columns }
 {
     if point.len() != columns {
-        return Fault {
-            number: refusal::POINT,
+        return Err(Refusal {
+            reason: Reason::Point,
             place: columns,
-        };
+        });
     }
-    first_non_finite(point, columns, refusal::POINT, 0)
+    first_non_finite(point, Reason::Point, 0)
 }
 
-// Writes the list's first `count` numbers over the front of another.
-pub fn copy_front(list: &[f64], count: usize, to: &mut [f64])
-    requires { (count ≤ length list.now) × (count ≤ length to.old) }
-    ensures { to.new ≡ take count list.now ++ drop count to.old }
+// Writes the list over the front of another.
+pub fn copy_front(list: &[f64], to: &mut [f64])
+    requires { length list.now ≤ length to.old }
+    ensures { to.new ≡ list.now ++ drop (length list.now) to.old }
 {
-    let mut i = 0usize;
-    while i < count {
-        to[i] = list[i];
-        i += 1;
-    }
+    to[..list.len()].copy_from_slice(list);
 }

@@ -1,54 +1,71 @@
 -- What a file's counts and their refusal are, by what reading yields.
-use mathlib.Core.Path.{◌≡◌, ap, ◌∙◌}
+use mathlib.Core.Path.{◌≡◌, ap, sym, ◌∙◌}
 use mathlib.Core.List.{List}
-use Prim.Native.Nat.{ℕ, ◌-◌, ◌≤◌, ◌<◌}
+use Prim.Native.Nat.{ℕ, ◌+◌, ◌-◌, ◌≤◌, ◌<◌}
 use native.Mathlib.Omega.{arith}
-use lib.ListN.{length}
-use borrow.Author.Tests.{le-leb, lt-leb}
-use Rattle.base.specs.Fault.{fault, clear}
-use Rattle.base.specs.Refusal.{SIZE, MODEL}
-use Rattle.nl.specs.declared.Parts.TheVariants.{Stop}
+use lib.ListN.{length, replicate, length-replicate}
+use Rattle.std.specs.Prelude.{None, Ok, Err, IsErr}
+use Rattle.base.specs.declared.refusal.Reason.{Reason}
+use Rattle.base.specs.declared.refusal.Reason.TheVariants as reason
+use Rattle.base.specs.declared.refusal.Refusal.{Refusal}
+use Rattle.nl.specs.declared.reader.Parts.{Parts}
 use Rattle.nl.specs.Expr.{count}
 use Rattle.nl.specs.File.{Model}
-use Rattle.nl.specs.Reader.{read_parts}
+use Rattle.nl.specs.Reader.{Read, read_parts}
 use Rattle.nl.proofs.PartSound.{Outcome, in_shared, in_rows, in_end, passed, outcome}
+use Rattle.model_reading.specs.declared.FileLayout.{FileLayout}
 use Rattle.model_reading.specs.Place.{place_of}
 use Rattle.model_reading.specs.Reading.{shared_limit, layout_after, file_layout, yields, wrong, reading}
-use Rattle.model_reading.specs.Counts.{no_counts, counts_of, row_counts}
-use Rattle.model_reading.proofs.Reading.{extra_place_is, layout_is, yields_exactly, wrong_failed}
+use Rattle.model_reading.specs.Counts.{counts_of, row_counts}
+use Rattle.model_reading.proofs.Reading.{extra_place_is, no_extra_place, layout_is, layout_of, layout_stands, yields_exactly, wrong_failed}
+
+abbrev count_in : Read FileLayout → ℕ
+count_in (Ok l) = l.shared
+count_in (Err w) = 0
+
+abbrev pub refused : Reason → ℕ → Refusal
+refused reason place = record { reason = reason; place = place }
 
 module _ (ws cs : List ℕ) (columns : ℕ) where
   -- 17 and the place of the first wrong word, of a file that does not pass reading
-  pub counts_wrong : (p : ℕ) → reading ws cs columns ≡ wrong p → row_counts ws (length cs) columns ≡ no_counts (fault MODEL p)
+  pub counts_wrong : (p : ℕ) → reading ws cs columns ≡ wrong p → row_counts ws (length cs) columns ≡ Err (refused reason.Model p)
   unfolding counts_of
   counts_wrong p e = ap counts_of ((wrong_failed ws cs columns p).0 e)
 
   -- the numbers of M's shared parts and rows
   pub counts_yield : (M : Model) → reading ws cs columns ≡ yields M → count M.shared ≤ shared_limit
-      → row_counts ws (length cs) columns ≡ record { fault = clear; shared = count M.shared; rows = count M.rows }
+      → row_counts ws (length cs) columns ≡ Ok (record { shared = count M.shared; rows = count M.rows })
   unfolding counts_of
-  counts_yield M e h = ap counts_of (layout_is ws cs columns M ((yields_exactly ws cs columns M).0 e)) ∙ rw (le-leb (count M.shared) shared_limit h)
+  counts_yield M e h = ap counts_of (layout_is ws cs columns M ((yields_exactly ws cs columns M).0 e)) ∙ rw (no_extra_place M h)
 
   -- 2, with "the first beginning word too many"
   pub counts_size : (M : Model) → reading ws cs columns ≡ yields M → shared_limit < count M.shared
-      → row_counts ws (length cs) columns ≡ no_counts (fault SIZE (place_of shared_limit 0 M.shared))
+      → row_counts ws (length cs) columns ≡ Err (refused reason.Size (place_of shared_limit 0 M.shared))
   unfolding counts_of
-  counts_size M e h = ap counts_of (layout_is ws cs columns M ((yields_exactly ws cs columns M).0 e)) ∙ rw (lt-leb (count M.shared) shared_limit h, extra_place_is M h)
+  counts_size M e h =
+      let (end, its) = extra_place_is M h in
+      let place : place_of shared_limit 0 M.shared + 1 - 1 ≡ place_of shared_limit 0 M.shared = omega arith in
+      ap counts_of (layout_is ws cs columns M ((yields_exactly ws cs columns M).0 e)) ∙ rw its (ap (λ x. Err (refused reason.Size x)) place)
 
 -- where more than 4,352 shared parts are read, or a wrong word, the file is refused whatever follows: a caller that has no room for more need not read on
 pub too_many : (ws : List ℕ) (constants columns : ℕ)
-    → ((n at k start end : ℕ) → read_parts ws constants columns (λ i. i) 10 shared_limit (length ws) 0 0 0 0 0 ≡ Stop n at k start end → shared_limit < n)
-    → (row_counts ws constants columns).fault.number ≡ 0 → ⊥
+    → ((p : Parts) → read_parts ws constants columns (λ i. i) 10 shared_limit (length ws) 0 0 0 None ≡ Ok p → shared_limit < p.count)
+    → IsErr (row_counts ws constants columns)
 unfolding counts_of file_layout layout_after
-too_many ws constants columns h z = go (outcome ws constants columns shared_limit)
+too_many ws constants columns h =
+    let l : length {A = ℕ} (replicate constants 0) ≡ constants = length-replicate constants 0 in
+    rw l at (go (replicate constants 0) (rw l h))
   where
-    failed : (p : ℕ) → row_counts ws constants columns ≡ no_counts (fault MODEL p) → ⊥
-    failed p e = omega (arith, ap (λ c. c.fault.number) e, z)
-
-    go : Outcome ws constants columns shared_limit → ⊥
-    go (in_shared p q f) = failed p (rw q)
-    go (in_rows s a b u v p q q' f) = failed p (rw (q, q'))
-    go (in_end s a b u v m c d x y p q q' q'' f) = failed p (rw (q, q', q''))
-    go (passed s a b u v m c d x y i j first second third g) =
-        let e : row_counts ws constants columns ≡ no_counts (fault SIZE (u - 1)) = rw (first, second, third, lt-leb s shared_limit (h s a b u v first)) in
-        omega (arith, ap (λ c. c.fault.number) e, z)
+    go : (cs : List ℕ) → ((p : Parts) → read_parts ws (length cs) columns (λ i. i) 10 shared_limit (length ws) 0 0 0 None ≡ Ok p → shared_limit < p.count)
+        → IsErr (row_counts ws (length cs) columns)
+    go cs h = by (outcome ws (length cs) columns shared_limit)
+      where
+        by : Outcome ws (length cs) columns shared_limit → IsErr (row_counts ws (length cs) columns)
+        by (in_shared p q f) = rw q
+        by (in_rows s a b u p q q' f) = rw (q, q')
+        by (in_end s a b u m c d x p q q' q'' f) = rw (q, q', q'')
+        by (passed s a b u m c d x i j first second third g) =
+            let (M, S) = layout_stands ws cs columns (record { shared = s; rows = m; rows_at = a; objective_at = c; extra = u }) (rw (first, second, third)) in
+            let same : Ok (layout_of M) ≡ Ok (record { shared = s; rows = m; rows_at = a; objective_at = c; extra = u }) = sym (layout_is ws cs columns M S) ∙ rw (first, second, third) in
+            let n : count M.shared ≡ s = ap count_in same in
+            rw (counts_size ws cs columns M ((yields_exactly ws cs columns M).1 S) (omega (arith, h _ first)))

@@ -9,18 +9,18 @@ use lib.ListN.{length, get_or}
 use lib.Ieee.{Float}
 use borrow.Author.Tests.{eqb-true}
 use Rattle.base.proofs.Firsts.{Clear, or_left, or_right, unless_true}
-use Rattle.base.specs.declared.Fault.{Fault}
+use Rattle.base.specs.Fault.{Fault}
+use Rattle.base.specs.Fault.{clear}
 use Rattle.float.specs.Doubles.{Doubles}
 use Rattle.network.specs.Fault.{fault_words, fault_size, fault_count, words_fault, form_fault}
 use Rattle.network.specs.Limits.{generator_numbers, point_numbers, branch_numbers, most_points}
 use Rattle.network.specs.Network.{generators, generator_place, branch_place, reference_place, points, referred, branch_at, needed}
 use Rattle.network.specs.Word.{generator_bus, generator_bounded, generator_points, branch_from, branch_to, branch_angled, branch_limited, reference_bus}
 use Rattle.network.specs.declared.layout.Layout.{Layout}
-use Rattle.network.specs.declared.formed.Form.{Form}
 use Rattle.network.specs.declared.records.Generator.{Generator}
 use Rattle.network.specs.declared.records.Branch.{Branch}
 use Rattle.network.specs.declared.layout.Cursor.{Cursor}
-use Rattle.network.specs.Layout.{layout_of, branch_at_place, branch_record, LaidWords, Laid, Formed}
+use Rattle.network.specs.Layout.{layout_of, branch_at_place, branch_record, LaidWords, Laid}
 use Rattle.network.specs.internal.Records.{generator_at_place, generator_record, Standing, GeneratorRead, BranchRead}
 use Rattle.network.proofs.Places.{words_length, bus_of_generator, no_single_point, from_bus, to_bus, referred_bus, limits}
 use Rattle.network.proofs.Numbers.{generator_zero, generator_next, generator_start, generator_high, generator_fits}
@@ -75,23 +75,22 @@ module _ (ws : List ℕ) (xs : List Float) where
 
 -- ---- the answers of the checks
 
+clear_number : {f : Fault} → clear ≡ f → Clear f
+clear_number e = ap (λ (f : Fault). f.number) (sym e)
+
 module _ {ws : List ℕ} where
-  pub formed_stop : {f g : Fault} {r : Form} → r.fault ≡ g → g ≡ f → (Clear g → ⊥) → Formed ws f r
-  formed_stop e q n = record { fault = e ∙ q; layout = λ h. absurd (n (ap (λ z. z.number) q ∙ h)) }
-
-  pub formed_clear : {f : Fault} {r : Form} → Formed ws f r → Clear r.fault → Clear f
-  formed_clear F h = ap (λ z. z.number) (sym F.fault) ∙ h
-
-  pub formed_words : {r : Form} → Formed ws (words_fault ws) r → Clear r.fault → LaidWords ws r.layout
+  -- 1 and 2 are clear
+  pub words_laid : {l : Layout} → clear ≡ words_fault ws → l ≡ layout_of ws → LaidWords ws l
   unfolding words_fault
-  formed_words F h = let k = formed_clear F h in laid_words ws (or_left _ _ k) (or_right _ _ k) (F.layout k)
+  words_laid e q = let k = clear_number e in laid_words ws (or_left _ _ k) (or_right _ _ k) q
 
-  pub formed_form : {xs : List Float} {r : Form} → Formed ws (form_fault ws (length xs)) r → Doubles xs → Clear r.fault → Laid ws xs r.layout
+  -- 1 to 3 are clear
+  pub form_laid : {xs : List Float} {l : Layout} → clear ≡ form_fault ws (length xs) → l ≡ layout_of ws → Doubles xs → Laid ws xs l
   unfolding form_fault words_fault fault_count
-  formed_form {xs} F D h =
-      let k = formed_clear F h in
+  form_laid {xs} e q D =
+      let k = clear_number e in
       let w = or_left _ _ k in
-      laid_form ws xs (or_left _ _ w) (or_right _ _ w) (or_right _ _ k) D (F.layout k)
+      laid_form ws xs (or_left _ _ w) (or_right _ _ w) (or_right _ _ k) D q
 
 -- ---- places, in the code's terms
 

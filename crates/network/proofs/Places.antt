@@ -13,7 +13,7 @@ use Rattle.base.proofs.Loops.{bit, tally_le, tally_up, tally_all, tally_rest, ta
 use Rattle.base.specs.Fault.{fault}
 use Rattle.base.specs.Loop.{loop, tally}
 use Rattle.base.specs.Word.{kind_of, load_of}
-use Rattle.base.specs.declared.Fault.{Fault}
+use Rattle.base.specs.Fault.{Fault}
 use Rattle.network.specs.Fault.{word_right, fault_words, fault_size}
 use Rattle.network.specs.Network.{kind_before, buses, generators, branches, references, bus_of, points, from, to, referred, generator_place, branch_place, reference_place}
 use Rattle.network.specs.Limits.{most_buses, most_generators, most_branches, most_references, most_points}

@@ -1,7 +1,7 @@
 -- Document 01, "Numbers a controller shows": refusals 1 to 3 of a network, its form, each with its place.
 use Rattle.std.specs.Prelude.{ℕ, ◌-◌, Bool, cond, ◌&&◌, List, length, get_or, eqb, leb, Float}
 use Rattle.base.specs.Word.{kind_of}
-use Rattle.base.specs.declared.Fault.{Fault}
+use Rattle.base.specs.Fault.{Fault}
 use Rattle.base.specs.Fault.{fault, unless, or_else, first}
 use Rattle.base.specs.Refusal.{WORDS, SIZE, COUNT}
 use Rattle.network.specs.Limits.{most_buses, most_generators, most_branches, most_references, most_points}

@@ -4,9 +4,7 @@ use Rattle.std.specs.Prelude.{ℕ, ◌+◌, ◌*◌, ◌≤◌, ◌<◌, ◌≡�
 use Rattle.std.specs.Float.Ieee.{lt}
 use Rattle.float.specs.Doubles.{Doubles}
 use Rattle.float.specs.Number.{zero64}
-use Rattle.base.specs.declared.Fault.{Fault}
 use Rattle.network.specs.declared.layout.Layout.{Layout}
-use Rattle.network.specs.declared.formed.Form.{Form}
 use Rattle.network.specs.declared.records.Branch.{Branch}
 use Rattle.network.specs.Limits.{bus_numbers, generator_numbers, point_numbers, branch_numbers, most_buses}
 use Rattle.network.specs.Limits.{most_generators, most_branches, most_references, most_points, most_numbers}
@@ -93,8 +91,3 @@ pub record Laid (ws : List ℕ) (xs : List Float) (l : Layout) : Type 0 where
   pub generator_fits : (g : ℕ) → g < l.generators → generator_at ws g + generator_numbers + point_numbers * points ws g ≤ length xs
   pub branch_fits : (b : ℕ) → b < l.branches → branch_at ws b + branch_numbers ≤ length xs
   pub doubles : Doubles xs
-
--- the answer of a check whose fault is f, and the layout for those who go on where it is clear
-pub record Formed (ws : List ℕ) (f : Fault) (r : Form) : Type 0 where
-  pub fault : r.fault ≡ f
-  pub layout : f.number ≡ 0 → r.layout ≡ layout_of ws

@@ -1,4 +1,5 @@
 pub mod Word
+pub mod Kinds
 pub mod Limits
 pub mod Network
 pub mod Fault

@@ -1,12 +1,11 @@
 // Where the words and numbers of each kind stand in a network file. No other file knows how many numbers a record has.
 ghost use Rattle.std.specs.Prelude.{◌≡◌, ◌+◌, ◌*◌, ◌<◌, ◌≤◌};
-ghost use Rattle.network.specs.Limits.{generator_numbers, point_numbers, most_buses, most_generators, most_branches, most_numbers};
-ghost use Rattle.network.specs.Network.{buses, generators, branches, references, bus_at, generator_at, branch_at, needed};
+ghost use Rattle.network.specs.Limits.{generator_numbers, point_numbers, most_buses, most_generators, most_branches};
+ghost use Rattle.network.specs.Network.{buses, generators, branches, references, generator_at, needed};
 ghost use Rattle.network.specs.Fault.{fault_words, fault_size};
 ghost use Rattle.network.specs.Layout.{layout_from, layout_of, LaidWords};
-ghost use Rattle.network.specs.internal.Records.{Standing};
 
-use crate::sizes::{Sizes, sizes_of};
+use crate::sizes::Sizes;
 use crate::word::{generator_points, header_costs};
 
 // The numbers of a record: of a bus, of a generator before its curve, of a point of a curve, of a branch.
@@ -31,7 +30,7 @@ pub const MOST_POINTS: usize = 9;
 
 // The counts, the place of the first word and of the first number of each kind (the buses' words start at 1, their numbers at 0), and the
 // header's flag.
-#[derive(Clone, Copy)]
+#[derive(Clone, Copy, Debug, PartialEq, Eq)]
 pub struct Layout {
     pub buses: usize,
     pub generators: usize,
@@ -46,7 +45,7 @@ pub struct Layout {
 }
 
 // A generator's index and the place of its first number.
-#[derive(Clone, Copy)]
+#[derive(Clone, Copy, Debug, PartialEq, Eq)]
 pub struct Cursor {
     pub index: usize,
     pub at: usize,
@@ -67,11 +66,9 @@ pub(crate) fn generators_end(words: &[u32], n: usize, k: usize) -> usize
     ensures { result ≡ generator_at words.now k }
 {
     let mut at = BUS_NUMBERS * n;
-    let mut g = 0usize;
-    while g < k {
+    for g in 0..k {
         let points = generator_points(words[1 + n + g]);
         at = record_end(at, points);
-        g += 1;
     }
     at
 }
@@ -109,57 +106,10 @@ pub(crate) fn layout_with(words: &[u32], sizes: Sizes) -> Layout
     layout_from(sizes, end, header_costs(words[0]))
 }
 
-// Of words that refusals 1 and 2 do not refuse.
-pub fn layout_of(words: &[u32]) -> Layout
-    requires { ((fault_words words.now).number ≡ 0) × ((fault_size words.now).number ≡ 0) }
-    ensures { result ≡ layout_of words.now }
-{
-    layout_with(words, sizes_of(words))
-}
-
 // How many numbers the words ask for.
-pub fn numbers_needed(words: &[u32], layout: Layout) -> usize
+pub(crate) fn numbers_needed(words: &[u32], layout: Layout) -> usize
     requires { LaidWords words.now layout }
     ensures { result ≡ needed words.now }
 {
     layout.branch_numbers + BRANCH_NUMBERS * layout.branches
-}
-
-// The place of bus i's first number.
-pub fn bus_start(words: &[u32], layout: Layout, i: usize) -> usize
-    requires { (LaidWords words.now layout) × (i < layout.buses) }
-    ensures { result ≡ bus_at words.now i }
-{
-    BUS_NUMBERS * i
-}
-
-// The first generator, if there is one.
-pub fn first_generator(words: &[u32], layout: Layout) -> Cursor
-    requires { LaidWords words.now layout }
-    ensures { (Standing words.now layout result) × (result.index ≡ 0) }
-{
-    Cursor {
-        index: 0,
-        at: layout.generator_numbers,
-    }
-}
-
-pub fn next_generator(words: &[u32], layout: Layout, cursor: Cursor) -> Cursor
-    requires { (LaidWords words.now layout) × (Standing words.now layout cursor) × (cursor.index < layout.generators) }
-    ensures { (Standing words.now layout result) × (result.index ≡ cursor.index + 1) }
-{
-    let first = layout.generator_words;
-    let points = generator_points(words[first + cursor.index]);
-    Cursor {
-        index: cursor.index + 1,
-        at: record_end(cursor.at, points),
-    }
-}
-
-// The place of branch b's first number.
-pub fn branch_start(words: &[u32], layout: Layout, b: usize) -> usize
-    requires { (LaidWords words.now layout) × (b < layout.branches) }
-    ensures { (result ≡ branch_at words.now b) × (result < most_numbers) }
-{
-    layout.branch_numbers + BRANCH_NUMBERS * b
 }

@@ -6,19 +6,21 @@ mod layout;
 mod limits;
 mod records;
 mod sizes;
+mod tables;
+mod walk;
 mod word;
 mod words;
 
-pub use base::Fault;
-pub use formed::{Form, form_fault, form_of, words_fault, words_form};
+pub use formed::{form_of, tables_of, words_form};
 pub use layout::{
     BRANCH_NUMBERS, BUS_NUMBERS, Cursor, GENERATOR_NUMBERS, Layout, MOST_BRANCHES, MOST_BUSES,
-    MOST_GENERATORS, MOST_POINTS, MOST_REFERENCES, POINT_NUMBERS, branch_start, bus_start,
-    first_generator, layout_of, next_generator, numbers_needed,
+    MOST_GENERATORS, MOST_POINTS, MOST_REFERENCES, POINT_NUMBERS,
 };
-pub use records::{Branch, Bus, Generator, branch_of, bus_of, generator_of, reference_of};
+pub use records::{Branch, Bus, Generator};
 pub use sizes::{Sizes, sizes_of};
+pub use tables::Tables;
+pub use walk::Generators;
 pub use word::{
-    branch_angled, branch_from, branch_limited, branch_to, bus_bounded, generator_bounded,
+    Kind, branch_angled, branch_from, branch_limited, branch_to, bus_bounded, generator_bounded,
     generator_bus, generator_points, header_costs, load_right, reference_bus,
 };

@@ -1,6 +1,6 @@
 // Refusals 2, size, and 3, count: the limits, and the needed length of the number list.
-ghost use Rattle.std.specs.Prelude.{◌≡◌, ◌+◌, ◌≤◌, leb, length};
-ghost use Rattle.base.specs.Fault.{fault, unless, first};
+ghost use Rattle.std.specs.Prelude.{◌≡◌, ◌+◌, ◌≤◌, leb, length, OnOk};
+ghost use Rattle.base.specs.Fault.{fault, shown, fault_of, unless, first};
 ghost use Rattle.base.specs.Refusal.{SIZE};
 ghost use Rattle.network.specs.Limits.{most_points};
 ghost use Rattle.network.specs.Network.{buses, generators, branches, references, generator_place, points};
@@ -11,79 +11,78 @@ use crate::layout::{
     Layout, MOST_BRANCHES, MOST_BUSES, MOST_GENERATORS, MOST_POINTS, MOST_REFERENCES,
     numbers_needed,
 };
+use crate::sizes::Sizes;
 use crate::word::generator_points;
-use base::{Fault, refusal};
+use base::{Reason, Refusal};
 
-// The first of k generators whose curve has more than nine points.
-fn points_fault(words: &[u32], n: usize, k: usize) -> Fault
-    requires { (n ≡ buses words.now) × (1 + n + k ≤ length words.now) }
-    ensures { result ≡ first k (λ g. unless (leb (points words.now g) most_points)
-        (fault SIZE (generator_place words.now g))) }
+fn too_large(place: usize) -> Refusal
+    ensures { shown result ≡ fault SIZE place }
 {
-    let mut g = 0usize;
-    while g < k {
-        if generator_points(words[1 + n + g]) > MOST_POINTS {
-            return Fault {
-                number: refusal::SIZE,
-                place: 1 + n + g,
-            };
-        }
-        g += 1;
+    Refusal {
+        reason: Reason::Size,
+        place,
     }
-    refusal::CLEAR
 }
 
-// n, k, m and r are the counts of buses, generators, branches and references.
-#[tactic(auto, using(crate::proofs::Steps::many_buses))]
-pub(crate) fn size_fault(words: &[u32], n: usize, k: usize, m: usize, r: usize) -> Fault
-    requires { (n ≡ buses words.now) × (k ≡ generators words.now) × (m ≡ branches words.now)
-        × (r ≡ references words.now) × ((fault_words words.now).number ≡ 0) }
-    ensures { result ≡ fault_size words.now }
+// At most so many, else the word at the place passes the limit.
+fn at_most(most: usize, count: usize, place: usize) -> Result<(), Refusal>
+    ensures fault { fault_of result ≡ unless (leb count most) (fault SIZE place) }
+    ensures few { OnOk result (count ≤ most) }
 {
-    if n < 1 {
-        return Fault {
-            number: refusal::SIZE,
-            place: 0,
-        };
+    if count > most {
+        return Err(too_large(place));
     }
-    if n > MOST_BUSES {
-        return Fault {
-            number: refusal::SIZE,
-            place: 1 + MOST_BUSES,
-        };
+    Ok(())
+}
+
+// The first of k generators whose curve has more than nine points.
+fn points_fault(words: &[u32], n: usize, k: usize) -> Result<(), Refusal>
+    requires { (n ≡ buses words.now) × (1 + n + k ≤ length words.now) }
+    ensures { fault_of result ≡ first k (λ g. unless (leb (points words.now g) most_points)
+        (fault SIZE (generator_place words.now g))) }
+{
+    for g in 0..k {
+        if generator_points(words[1 + n + g]) > MOST_POINTS {
+            return Err(too_large(1 + n + g));
+        }
     }
-    if k > MOST_GENERATORS {
-        return Fault {
-            number: refusal::SIZE,
-            place: 1 + n + MOST_GENERATORS,
-        };
+    Ok(())
+}
+
+// 2, of words that 1 does not refuse.
+pub(crate) fn size_fault(words: &[u32], sizes: Sizes) -> Result<(), Refusal>
+    requires { (sizes.buses ≡ buses words.now) × (sizes.generators ≡ generators words.now) × (sizes.branches ≡ branches words.now)
+        × (sizes.references ≡ references words.now) × ((fault_words words.now).number ≡ 0) }
+    ensures { fault_of result ≡ fault_size words.now }
+{
+    let n = sizes.buses;
+    let k = sizes.generators;
+    let m = sizes.branches;
+    if n == 0 {
+        return Err(too_large(0));
     }
-    if m > MOST_BRANCHES {
-        return Fault {
-            number: refusal::SIZE,
-            place: 1 + n + k + MOST_BRANCHES,
-        };
-    }
-    if r > MOST_REFERENCES {
-        return Fault {
-            number: refusal::SIZE,
-            place: 1 + n + k + m + MOST_REFERENCES,
-        };
-    }
+    at_most(MOST_BUSES, n, 1 + MOST_BUSES)?;
+    at_most(MOST_GENERATORS, k, 1 + n + MOST_GENERATORS)?;
+    at_most(MOST_BRANCHES, m, 1 + n + k + MOST_BRANCHES)?;
+    at_most(
+        MOST_REFERENCES,
+        sizes.references,
+        1 + n + k + m + MOST_REFERENCES,
+    )?;
     points_fault(words, n, k)
 }
 
-// `count` is the length of the number list.
-pub(crate) fn count_fault(words: &[u32], layout: Layout, count: usize) -> Fault
+// 3, where `count` is the length of the number list.
+pub(crate) fn count_fault(words: &[u32], layout: Layout, count: usize) -> Result<(), Refusal>
     requires { LaidWords words.now layout }
-    ensures { result ≡ count_fault words.now count }
+    ensures { fault_of result ≡ count_fault words.now count }
 {
     let needed = numbers_needed(words, layout);
     if count != needed {
-        return Fault {
-            number: refusal::COUNT,
+        return Err(Refusal {
+            reason: Reason::Count,
             place: needed,
-        };
+        });
     }
-    refusal::CLEAR
+    Ok(())
 }

@@ -1,17 +1,12 @@
 // The records of buses, generators and branches by value.
-ghost use Rattle.std.specs.Prelude.{◌≡◌, ◌+◌, ◌<◌, ◌≤◌, length};
+ghost use Rattle.std.specs.Prelude.{◌≡◌, ◌+◌, ◌≤◌, length};
 ghost use Rattle.network.specs.Limits.{bus_numbers, generator_numbers, branch_numbers};
-ghost use Rattle.network.specs.Network.{referred};
-ghost use Rattle.network.specs.Layout.{LaidWords, Laid, branch_at_place};
-ghost use Rattle.network.specs.internal.Records.{Standing, bus_at_place, generator_at_place, bus_record, GeneratorRead, BranchRead};
+ghost use Rattle.network.specs.Layout.{branch_at_place};
+ghost use Rattle.network.specs.internal.Records.{bus_at_place, generator_at_place};
 
-use crate::layout::{BUS_NUMBERS, Cursor, GENERATOR_NUMBERS, Layout, branch_start};
-use crate::word::{
-    branch_angled, branch_from, branch_limited, branch_to, bus_bounded, generator_bounded,
-    generator_bus, generator_points, reference_bus,
-};
+use crate::layout::GENERATOR_NUMBERS;
 
-#[derive(Clone, Copy)]
+#[derive(Clone, Copy, Debug)]
 pub struct Bus {
     pub bounded: bool,
     pub p_d: f64,
@@ -25,7 +20,7 @@ pub struct Bus {
 }
 
 // `curve` is the place of the curve's first number; `curved`: it has an epigraph column.
-#[derive(Clone, Copy)]
+#[derive(Clone, Copy, Debug)]
 pub struct Generator {
     pub bus: usize,
     pub bounded: bool,
@@ -44,7 +39,7 @@ pub struct Generator {
 }
 
 // `rated`: it has thermal rows.
-#[derive(Clone, Copy)]
+#[derive(Clone, Copy, Debug)]
 pub struct Branch {
     pub from: usize,
     pub to: usize,
@@ -65,7 +60,7 @@ pub struct Branch {
 }
 
 // A bus, by what its word says and the place of its first number.
-fn bus_at(numbers: &[f64], at: usize, bounded: bool) -> Bus
+pub(crate) fn bus_at(numbers: &[f64], at: usize, bounded: bool) -> Bus
     requires { at + bus_numbers ≤ length numbers.now }
     ensures { result ≡ bus_at_place numbers.now at bounded }
 {
@@ -82,16 +77,8 @@ fn bus_at(numbers: &[f64], at: usize, bounded: bool) -> Bus
     }
 }
 
-pub fn bus_of(words: &[u32], numbers: &[f64], layout: Layout, i: usize) -> Bus
-    requires { (Laid words.now numbers.now layout) × (i < layout.buses) }
-    ensures { result ≡ bus_record words.now numbers.now i }
-{
-    let bounded = bus_bounded(words[1 + i]);
-    bus_at(numbers, BUS_NUMBERS * i, bounded)
-}
-
 // A generator, by what its word says and the place of its first number.
-fn generator_at(
+pub(crate) fn generator_at(
     numbers: &[f64],
     at: usize,
     bus: usize,
@@ -120,27 +107,8 @@ fn generator_at(
     }
 }
 
-pub fn generator_of(words: &[u32], numbers: &[f64], layout: Layout, cursor: Cursor) -> Generator
-    requires { (Laid words.now numbers.now layout) × (Standing words.now layout cursor)
-        × (cursor.index < layout.generators) }
-    ensures { GeneratorRead words.now numbers.now layout cursor.index result }
-{
-    let first = layout.generator_words;
-    let w = words[first + cursor.index];
-    let points = generator_points(w);
-    let some = points != 0;
-    generator_at(
-        numbers,
-        cursor.at,
-        generator_bus(w),
-        generator_bounded(w),
-        points,
-        layout.costs & some,
-    )
-}
-
 // A branch, by what its word says and the place of its first number.
-fn branch_at(
+pub(crate) fn branch_at(
     numbers: &[f64],
     at: usize,
     from: usize,
@@ -171,30 +139,4 @@ fn branch_at(
         angle_max: numbers[at + 9],
         s_max,
     }
-}
-
-pub fn branch_of(words: &[u32], numbers: &[f64], layout: Layout, b: usize) -> Branch
-    requires { (Laid words.now numbers.now layout) × (b < layout.branches) }
-    ensures { BranchRead words.now numbers.now layout b result }
-{
-    let at = branch_start(words, layout, b);
-    let first = layout.branch_words;
-    let w = words[first + b];
-    branch_at(
-        numbers,
-        at,
-        branch_from(w),
-        branch_to(w),
-        branch_angled(w),
-        branch_limited(w),
-    )
-}
-
-// The bus of reference r.
-pub fn reference_of(words: &[u32], layout: Layout, r: usize) -> usize
-    requires { (LaidWords words.now layout) × (r < layout.references) }
-    ensures { (result ≡ referred words.now r) × (result < layout.buses) }
-{
-    let first = layout.reference_words;
-    reference_bus(words[first + r])
 }

@@ -2,8 +2,11 @@
 ghost use Rattle.std.specs.Prelude.{◌≡◌, cond, suc, ◌+◌, ◌<◌, ◌≤◌, eqb};
 ghost use Rattle.base.specs.Word.{kind_of};
 ghost use Rattle.network.specs.Network.{buses, generators, branches, references};
+ghost use Rattle.network.specs.Kinds.{kind_number};
 
-#[derive(Clone, Copy)]
+use crate::word::Kind;
+
+#[derive(Clone, Copy, Debug, PartialEq, Eq)]
 pub struct Sizes {
     pub buses: usize,
     pub generators: usize,
@@ -12,11 +15,11 @@ pub struct Sizes {
 }
 
 // The count with w, where w has the kind.
-pub(crate) fn counted(count: usize, w: u32, kind: u32) -> usize
+pub(crate) fn counted(count: usize, w: u32, kind: Kind) -> usize
     requires { count < 0xffff_ffff_ffff_ffff }
-    ensures { (result ≡ cond (eqb (kind_of w) kind) (suc count) count) × (result ≤ count + 1) }
+    ensures { (result ≡ cond (eqb (kind_of w) (kind_number kind)) (suc count) count) × (result ≤ count + 1) }
 {
-    if base::kind_of(w) == kind {
+    if base::kind_of(w) == kind.number() {
         return count + 1;
     }
     count
@@ -31,13 +34,11 @@ pub fn sizes_of(words: &[u32]) -> Sizes
     let mut generators = 0usize;
     let mut branches = 0usize;
     let mut references = 0usize;
-    let mut i = 0usize;
-    while i < words.len() {
-        buses = counted(buses, words[i], 2);
-        generators = counted(generators, words[i], 3);
-        branches = counted(branches, words[i], 4);
-        references = counted(references, words[i], 5);
-        i += 1;
+    for w in words {
+        buses = counted(buses, *w, Kind::Bus);
+        generators = counted(generators, *w, Kind::Generator);
+        branches = counted(branches, *w, Kind::Branch);
+        references = counted(references, *w, Kind::Reference);
     }
     Sizes {
         buses,

@@ -1,8 +1,43 @@
 // The fields of a network word, by shifts and masks, and whether its load is right.
-ghost use Rattle.std.specs.Prelude.{◌≡◌, ◌<◌};
+ghost use Rattle.std.specs.Prelude.{◌≡◌, ◌⊎◌, ◌↔◌, ◌<◌, ◌≤◌, IsNone, IfSome};
+ghost use Rattle.network.specs.Kinds.{kind_number};
 ghost use Rattle.base.specs.Word.{field, flag};
 ghost use Rattle.network.specs.Word.{header_costs, bus_bounded, generator_bus, generator_bounded, generator_points};
 ghost use Rattle.network.specs.Word.{branch_from, branch_to, branch_angled, branch_limited, reference_bus, load_right};
+
+// What a word is about.
+#[derive(Clone, Copy, Debug, PartialEq, Eq)]
+pub enum Kind {
+    Header,
+    Bus,
+    Generator,
+    Branch,
+    Reference,
+}
+
+impl Kind {
+    // The number in a word's top bits.
+    pub fn number(self) -> u32
+        ensures { result ≡ kind_number self }
+    {
+        self as u32 + 1
+    }
+
+    // The kind that has the number; 0 and those from 6 on are no kind's.
+    pub fn with_number(number: u32) -> Option<Kind>
+        ensures none { IsNone result ↔ ((number ≡ 0) ⊎ (6 ≤ number)) }
+        ensures some { IfSome result (λ kind. kind_number kind ≡ number) }
+    {
+        match number {
+            1 => Some(Kind::Header),
+            2 => Some(Kind::Bus),
+            3 => Some(Kind::Generator),
+            4 => Some(Kind::Branch),
+            5 => Some(Kind::Reference),
+            _ => None,
+        }
+    }
+}
 
 // `width` bits from bit `low` on.
 fn field(w: u32, low: u32, width: u32) -> u32
@@ -88,30 +123,27 @@ pub fn reference_bus(w: u32) -> usize
 pub fn load_right(before: usize, w: u32) -> bool
     ensures { result ≡ load_right before w }
 {
-    let kind = base::kind_of(w);
     let load = base::load_of(w);
-    if kind == 1 {
-        return load < 0x2;
+    match Kind::with_number(base::kind_of(w)) {
+        Some(Kind::Header) => load < 0x2,
+        Some(Kind::Bus) => load < 0x2,
+        Some(Kind::Generator) => {
+            let named = load < 0x4_0000;
+            let there = generator_bus(w) < before;
+            let curve = generator_points(w) != 1;
+            named & there & curve
+        }
+        Some(Kind::Branch) => {
+            let named = load < 0x400_0000;
+            let from = branch_from(w) < before;
+            let to = branch_to(w) < before;
+            named & from & to
+        }
+        Some(Kind::Reference) => {
+            let named = load < 0x1000;
+            let there = reference_bus(w) < before;
+            named & there
+        }
+        None => false,
     }
-    if kind == 2 {
-        return load < 0x2;
-    }
-    if kind == 3 {
-        let named = load < 0x4_0000;
-        let there = generator_bus(w) < before;
-        let curve = generator_points(w) != 1;
-        return named & there & curve;
-    }
-    if kind == 4 {
-        let named = load < 0x400_0000;
-        let from = branch_from(w) < before;
-        let to = branch_to(w) < before;
-        return named & from & to;
-    }
-    if kind == 5 {
-        let named = load < 0x1000;
-        let there = reference_bus(w) < before;
-        return named & there;
-    }
-    false
 }

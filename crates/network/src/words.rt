@@ -1,11 +1,22 @@
 // Refusal 1, words: the first wrong word.
 ghost use Rattle.std.specs.Prelude.{◌≡◌, ◌<◌, length};
+ghost use Rattle.base.specs.Fault.{fault, fault_of};
+ghost use Rattle.base.specs.Refusal.{WORDS};
 ghost use Rattle.network.specs.Network.{kind_before};
 ghost use Rattle.network.specs.Fault.{word_right, fault_words};
 
 use crate::sizes::counted;
-use crate::word::load_right;
-use base::{Fault, kind_of, refusal};
+use crate::word::{Kind, load_right};
+use base::{Reason, Refusal, kind_of};
+
+fn wrong(place: usize) -> Result<(), Refusal>
+    ensures { fault_of result ≡ fault WORDS place }
+{
+    Err(Refusal {
+        reason: Reason::Words,
+        place,
+    })
+}
 
 // `before` is the count of bus words before word i.
 fn word_right(words: &[u32], i: usize, before: usize) -> bool
@@ -25,26 +36,18 @@ fn word_right(words: &[u32], i: usize, before: usize) -> bool
     later & rising & load
 }
 
-pub(crate) fn wrong_word(words: &[u32]) -> Fault
-    ensures { result ≡ fault_words words.now }
+pub(crate) fn wrong_word(words: &[u32]) -> Result<(), Refusal>
+    ensures { fault_of result ≡ fault_words words.now }
 {
-    if words.len() == 0 {
-        return Fault {
-            number: refusal::WORDS,
-            place: 0,
-        };
+    if words.is_empty() {
+        return wrong(0);
     }
     let mut before = 0usize;
-    let mut i = 0usize;
-    while i < words.len() {
+    for (i, w) in words.iter().enumerate() {
         if !word_right(words, i, before) {
-            return Fault {
-                number: refusal::WORDS,
-                place: i,
-            };
+            return wrong(i);
         }
-        before = counted(before, words[i], 2);
-        i += 1;
+        before = counted(before, *w, Kind::Bus);
     }
-    refusal::CLEAR
+    Ok(())
 }

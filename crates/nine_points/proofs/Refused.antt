@@ -6,7 +6,7 @@ use mathlib.Core.List.{List}
 use lib.Dec.{leb}
 use lib.Ieee.{Float}
 use borrow.Author.Tests.{le-leb, lt-leb}
-use Rattle.base.specs.declared.Fault.{Fault}
+use Rattle.base.specs.Fault.{Fault}
 use Rattle.base.specs.Fault.{fault, unless, or_else, first}
 use Rattle.base.specs.Refusal.{SIZE}
 use Rattle.base.proofs.Firsts.{Clear, unless_clear, all_clear, or_go, or_stop}

@@ -2,7 +2,7 @@
 -- was answered or left in a list before, on its right what is now. The rule before is fault_size_at at 16; no other definition by which a
 -- public function answers has the limit (tests/limit holds them to that).
 use Rattle.std.specs.Prelude.{ℕ, ◌+◌, ◌*◌, ◌≤◌, ◌<◌, ◌≡◌, cond, List, [], ◌∷◌, ◌++◌, length, drop, eqb, Float}
-use Rattle.base.specs.declared.Fault.{Fault}
+use Rattle.base.specs.Fault.{Fault}
 use Rattle.base.specs.Fault.{or_else, Section, section, first_of, left}
 use Rattle.base.specs.Refusal.{WORDS, SIZE}
 use Rattle.network.specs.Network.{buses, generators, branches, points}

@@ -1,6 +1,6 @@
 -- Document 02 (b): "Ten points are now refused as size".
 use Rattle.std.specs.Prelude.{ℕ, ◌≤◌, ◌<◌, ◌≡◌, List, Float}
-use Rattle.base.specs.declared.Fault.{Fault}
+use Rattle.base.specs.Fault.{Fault}
 use Rattle.network.specs.Network.{buses, generators, branches, references, points}
 use Rattle.network.specs.Fault.{fault_words, words_fault}
 use Rattle.acopf.specs.Factor.{network_fault}

@@ -9,17 +9,18 @@ use lib.ListN.{length, get_or, take, drop, length-append, length-drop}
 use lib.Seq.{take_at}
 use lib.Dec.{ltb, eqb}
 use borrow.Author.Tests.{ltb-true}
+use Rattle.std.specs.Prelude.{Option, None, Ok, Err}
+use Rattle.base.specs.declared.refusal.Reason.TheVariants as reason
+use Rattle.base.specs.Fault.{fault_of}
 use Rattle.base.specs.Word.{word, kind_of, load_of}
-use Rattle.nl.specs.declared.Read.{Read}
-use Rattle.nl.specs.declared.Read.TheVariants.{Went, Wrong}
-use Rattle.nl.specs.declared.Parts.TheVariants.{Stop, Bad}
+use Rattle.nl.specs.declared.reader.Span.{Span}
+use Rattle.nl.specs.declared.reader.Cursor.{Cursor}
 use Rattle.nl.specs.Expr.{Expr, constant, column, shared, over, Terms, none, more, count, load_for, constants, constants_of, next, words, words_of, HasWords, HasWordsOf, depth, depth_of, Names, NamesOf}
 use Rattle.nl.specs.File.{Model, part_words, at_rows, at_objective, model_words, model_constants, Ruled, PartsRuled, StandsWithin, depth_limit}
-use Rattle.nl.specs.Reader.{word_ok, arity, uses, after, many, read_expr, is_mark, then_parts, read_parts, read_last, read_end}
-use Rattle.base.specs.Refusal.{MODEL}
+use Rattle.nl.specs.Reader.{Read, wrong, went, stop, span, word_ok, arity, uses, after, many, read_expr, is_mark, read_parts, read_last, read_end}
 use Rattle.nl.specs.Finder.{refused, find}
 use Rattle.nl.proofs.Words.{Operands, takes, leaf_arity}
-use Rattle.nl.proofs.Steps.{spelled, uses_none}
+use Rattle.nl.proofs.Steps.{same_place, spelled, uses_none}
 use Rattle.nl.proofs.Sound.{Stands, Word, is_constant, is_column, is_shared, is_over, which, here, sound}
 use Rattle.nl.proofs.PartSound.{mark_back, PartsAt, parts_sound, Outcome, in_shared, in_rows, in_end, passed, outcome}
 use Rattle.nl.proofs.Finds.{never_both}
@@ -89,8 +90,8 @@ record BegunOf (ws : List ℕ) (limit columns named deepest at k p n : ℕ) : Ty
   ends : p ≡ at + length front
   few : k + length (constants_of whole) ≤ limit
 
-never_went : {X : Type 0} (a b p : ℕ) → Went a b ≡ Wrong p → X
-never_went a b p e = let z : ◌≡◌ {A = ℕ} 0 1 = cc in absurd (omega arith)
+never_went : {X : Type 0} (a b p : ℕ) → went a b ≡ wrong p → X
+never_went a b p e = absurd (cc)
 
 module _ (ws cs : List ℕ) (columns columns' named : ℕ) (le : columns ≤ columns') (some : 1 ≤ columns') where
   -- nothing was taken: column 0 may stand there
@@ -133,7 +134,7 @@ module _ (ws cs : List ℕ) (columns columns' named : ℕ) (le : columns ≤ col
       }
 
   -- the first operand was read, and a later one begun
-  one_before : (d n at k a b p : ℕ) → k ≤ length cs → read_expr ws (length cs) columns named d at k ≡ Went a b → (b ≤ length cs → BegunOf ws (length cs) columns' named (suc d) a b p n)
+  one_before : (d n at k a b p : ℕ) → k ≤ length cs → read_expr ws (length cs) columns named d at k ≡ went a b → (b ≤ length cs → BegunOf ws (length cs) columns' named (suc d) a b p n)
       → BegunOf ws (length cs) columns' named (suc d) at k p (suc n)
   unfolding words HasWords Names depth constants
   one_before d n at k a b p h q later =
@@ -154,16 +155,16 @@ module _ (ws cs : List ℕ) (columns columns' named : ℕ) (le : columns ≤ col
         few = omega (arith, U.few, length-append (constants e) (constants_of U.whole));
       }
 
-  begun_many : (d : ℕ) → ((at k p : ℕ) → read_expr ws (length cs) columns named d at k ≡ Wrong p → k ≤ length cs → Begun ws (length cs) columns' named (suc d) at k p)
-      → (n at k p : ℕ) → many (read_expr ws (length cs) columns named d) n at k ≡ Wrong p → k ≤ length cs → BegunOf ws (length cs) columns' named (suc d) at k p n
+  begun_many : (d : ℕ) → ((at k p : ℕ) → read_expr ws (length cs) columns named d at k ≡ wrong p → k ≤ length cs → Begun ws (length cs) columns' named (suc d) at k p)
+      → (n at k p : ℕ) → many (read_expr ws (length cs) columns named d) n at k ≡ wrong p → k ≤ length cs → BegunOf ws (length cs) columns' named (suc d) at k p n
   begun_many d f zero at k p e h = never_went at k p e
   begun_many d f (suc n) at k p e h = go (read_expr ws (length cs) columns named d at k) refl e (begun_many d f n)
     where
-      go : (x : Read) → read_expr ws (length cs) columns named d at k ≡ x → after x (many (read_expr ws (length cs) columns named d) n) ≡ Wrong p
-          → ((at k p : ℕ) → many (read_expr ws (length cs) columns named d) n at k ≡ Wrong p → k ≤ length cs → BegunOf ws (length cs) columns' named (suc d) at k p n)
+      go : (x : Read Cursor) → read_expr ws (length cs) columns named d at k ≡ x → after x (many (read_expr ws (length cs) columns named d) n) ≡ wrong p
+          → ((at k p : ℕ) → many (read_expr ws (length cs) columns named d) n at k ≡ wrong p → k ≤ length cs → BegunOf ws (length cs) columns' named (suc d) at k p n)
           → BegunOf ws (length cs) columns' named (suc d) at k p (suc n)
-      go (Went a b) q r rec = one_before d n at k a b p h q (rec a b p r)
-      go (Wrong p') q r rec = one_begun d n at k p (f at k p (q ∙ r) h)
+      go (Ok c) q r rec = one_before d n at k c.at c.next p h q (rec c.at c.next p r)
+      go (Err w) q r rec = one_begun d n at k p (f at k p (q ∙ r) h)
 
   -- a kind over operands of which one was begun
   over_begun : (d at k kind load p : ℕ) → at < length ws → kind ≡ kind_of (get_or ws at 0) → load ≡ load_of (get_or ws at 0) → Operands kind (arity kind load) → load_for kind (arity kind load) ≡ load
@@ -184,17 +185,17 @@ module _ (ws cs : List ℕ) (columns columns' named : ℕ) (le : columns ≤ col
       }
 
   -- where the reader finds a wrong word, what stands before it is the beginning of an expression, one level deeper at most
-  begun : (d at k p : ℕ) → read_expr ws (length cs) columns named d at k ≡ Wrong p → k ≤ length cs → Begun ws (length cs) columns' named (suc d) at k p
+  begun : (d at k p : ℕ) → read_expr ws (length cs) columns named d at k ≡ wrong p → k ≤ length cs → Begun ws (length cs) columns' named (suc d) at k p
   unfolding read_expr
-  begun zero at k p e h = nothing 0 at k p (cc) h
+  begun zero at k p e h = nothing 0 at k p (same_place at p e) h
   begun (suc d) at k p e h = by_length (ltb at (length ws)) refl (sym (spelled ws (length cs) columns named d at k) ∙ e) (λ n at k p q l. begun_many d (begun d) n at k p q l)
     where
-      leaf : (kind load a b : ℕ) → kind < 3 → many (read_expr ws (length cs) columns named d) (arity kind load) a b ≡ Wrong p → Begun ws (length cs) columns' named (suc (suc d)) at k p
+      leaf : (kind load a b : ℕ) → kind < 3 → many (read_expr ws (length cs) columns named d) (arity kind load) a b ≡ wrong p → Begun ws (length cs) columns' named (suc (suc d)) at k p
       leaf kind load a b lt q = never_went a b p (rw (leaf_arity kind load lt) at q)
 
       by_kind : at < length ws → Word (length cs) columns named k (kind_of (get_or ws at 0)) (load_of (get_or ws at 0))
-          → many (read_expr ws (length cs) columns named d) (arity (kind_of (get_or ws at 0)) (load_of (get_or ws at 0))) (at + 1) (k + uses (kind_of (get_or ws at 0))) ≡ Wrong p
-          → ((n at k p : ℕ) → many (read_expr ws (length cs) columns named d) n at k ≡ Wrong p → k ≤ length cs → BegunOf ws (length cs) columns' named (suc d) at k p n)
+          → many (read_expr ws (length cs) columns named d) (arity (kind_of (get_or ws at 0)) (load_of (get_or ws at 0))) (at + 1) (k + uses (kind_of (get_or ws at 0))) ≡ wrong p
+          → ((n at k p : ℕ) → many (read_expr ws (length cs) columns named d) n at k ≡ wrong p → k ≤ length cs → BegunOf ws (length cs) columns' named (suc d) at k p n)
           → Begun ws (length cs) columns' named (suc (suc d)) at k p
       by_kind i (is_constant z l lt) q later = leaf (kind_of (get_or ws at 0)) (load_of (get_or ws at 0)) (at + 1) (k + uses (kind_of (get_or ws at 0))) (omega (arith, z)) q
       by_kind i (is_column z l) q later = leaf (kind_of (get_or ws at 0)) (load_of (get_or ws at 0)) (at + 1) (k + uses (kind_of (get_or ws at 0))) (omega (arith, z)) q
@@ -204,19 +205,19 @@ module _ (ws cs : List ℕ) (columns columns' named : ℕ) (le : columns ≤ col
           over_begun d at k (kind_of (get_or ws at 0)) (load_of (get_or ws at 0)) p i refl refl t l (later (arity (kind_of (get_or ws at 0)) (load_of (get_or ws at 0))) (at + 1) k p q' h)
 
       by_word : at < length ws → (b : Bool) → word_ok (length cs) columns named k (kind_of (get_or ws at 0)) (load_of (get_or ws at 0)) ≡ b
-          → cond b (many (read_expr ws (length cs) columns named d) (arity (kind_of (get_or ws at 0)) (load_of (get_or ws at 0))) (at + 1) (k + uses (kind_of (get_or ws at 0)))) (Wrong at) ≡ Wrong p
-          → ((n at k p : ℕ) → many (read_expr ws (length cs) columns named d) n at k ≡ Wrong p → k ≤ length cs → BegunOf ws (length cs) columns' named (suc d) at k p n)
+          → cond b (many (read_expr ws (length cs) columns named d) (arity (kind_of (get_or ws at 0)) (load_of (get_or ws at 0))) (at + 1) (k + uses (kind_of (get_or ws at 0)))) (wrong at) ≡ wrong p
+          → ((n at k p : ℕ) → many (read_expr ws (length cs) columns named d) n at k ≡ wrong p → k ≤ length cs → BegunOf ws (length cs) columns' named (suc d) at k p n)
           → Begun ws (length cs) columns' named (suc (suc d)) at k p
       by_word i true w q later = by_kind i (which (length cs) columns named k (kind_of (get_or ws at 0)) (load_of (get_or ws at 0)) w) q later
-      by_word i false w q later = nothing (suc d) at k p (cc) h
+      by_word i false w q later = nothing (suc d) at k p (same_place at p q) h
 
       by_length : (b : Bool) → ltb at (length ws) ≡ b
           → cond b (cond (word_ok (length cs) columns named k (kind_of (get_or ws at 0)) (load_of (get_or ws at 0)))
-          (many (read_expr ws (length cs) columns named d) (arity (kind_of (get_or ws at 0)) (load_of (get_or ws at 0))) (at + 1) (k + uses (kind_of (get_or ws at 0)))) (Wrong at)) (Wrong at) ≡ Wrong p
-          → ((n at k p : ℕ) → many (read_expr ws (length cs) columns named d) n at k ≡ Wrong p → k ≤ length cs → BegunOf ws (length cs) columns' named (suc d) at k p n)
+          (many (read_expr ws (length cs) columns named d) (arity (kind_of (get_or ws at 0)) (load_of (get_or ws at 0))) (at + 1) (k + uses (kind_of (get_or ws at 0)))) (wrong at)) (wrong at) ≡ wrong p
+          → ((n at k p : ℕ) → many (read_expr ws (length cs) columns named d) n at k ≡ wrong p → k ≤ length cs → BegunOf ws (length cs) columns' named (suc d) at k p n)
           → Begun ws (length cs) columns' named (suc (suc d)) at k p
       by_length true i q later = by_word (ltb-true at (length ws) i) (word_ok (length cs) columns named k (kind_of (get_or ws at 0)) (load_of (get_or ws at 0))) refl q later
-      by_length false i q later = nothing (suc d) at k p (cc) h
+      by_length false i q later = nothing (suc d) at k p (same_place at p q) h
 
 -- the same for parts
 record PartsBegun (ws : List ℕ) (limit columns : ℕ) (named : ℕ → ℕ) (kind i at k p : ℕ) : Type 0 where
@@ -245,7 +246,7 @@ module _ (ws cs : List ℕ) (columns columns' : ℕ) (named : ℕ → ℕ) (kind
         few = omega (arith, B.few, length-append (constants B.whole) []);
       }
 
-  part_before : (i at k a b p : ℕ) → is_mark ws kind i at ≡ true → k ≤ length cs → read_expr ws (length cs) columns (named i) depth_limit (at + 1) k ≡ Went a b
+  part_before : (i at k a b p : ℕ) → is_mark ws kind i at ≡ true → k ≤ length cs → read_expr ws (length cs) columns (named i) depth_limit (at + 1) k ≡ went a b
       → (b ≤ length cs → PartsBegun ws (length cs) columns' named kind (i + 1) a b p) → PartsBegun ws (length cs) columns' named kind i at k p
   unfolding part_words PartsRuled constants_of
   part_before i at k a b p m h q later =
@@ -264,29 +265,29 @@ module _ (ws cs : List ℕ) (columns columns' : ℕ) (named : ℕ → ℕ) (kind
         few = omega (arith, U.few, length-append (constants e) (constants_of U.whole));
       }
 
-  never_stop : {X : Type 0} (i at k s t p : ℕ) → Stop i at k s t ≡ Bad p → X
-  never_stop i at k s t p e = let z : ◌≡◌ {A = ℕ} 0 1 = cc in absurd (omega arith)
+  never_stop : {X : Type 0} (i at k : ℕ) (s : Option Span) (p : ℕ) → stop i at k s ≡ wrong p → X
+  never_stop i at k s p e = absurd (cc)
 
-  parts_begun : (n i at k s t p : ℕ) → read_parts ws (length cs) columns named kind r n i at k s t ≡ Bad p → k ≤ length cs → PartsBegun ws (length cs) columns' named kind i at k p
+  parts_begun : (n i at k : ℕ) (s : Option Span) (p : ℕ) → read_parts ws (length cs) columns named kind r n i at k s ≡ wrong p → k ≤ length cs → PartsBegun ws (length cs) columns' named kind i at k p
   unfolding read_parts
-  parts_begun zero i at k s t p e h = never_stop i at k s t p e
-  parts_begun (suc n) i at k s t p e h = by_mark (is_mark ws kind i at) refl e (λ a b u v q l. parts_begun n (i + 1) a b u v p q l)
+  parts_begun zero i at k s p e h = never_stop i at k s p e
+  parts_begun (suc n) i at k s p e h = by_mark (is_mark ws kind i at) refl e (λ a b u q l. parts_begun n (i + 1) a b u p q l)
     where
-      by_read : is_mark ws kind i at ≡ true → (x : Read) → read_expr ws (length cs) columns (named i) depth_limit (at + 1) k ≡ x
-          → then_parts x (λ a b. read_parts ws (length cs) columns named kind r n (i + 1) a b (cond (eqb i r) (at + 1) s) (cond (eqb i r) a t)) ≡ Bad p
-          → ((a b u v : ℕ) → read_parts ws (length cs) columns named kind r n (i + 1) a b u v ≡ Bad p → b ≤ length cs → PartsBegun ws (length cs) columns' named kind (i + 1) a b p)
+      by_read : is_mark ws kind i at ≡ true → (x : Read Cursor) → read_expr ws (length cs) columns (named i) depth_limit (at + 1) k ≡ x
+          → after x (λ a b. read_parts ws (length cs) columns named kind r n (i + 1) a b (cond (eqb i r) (span (at + 1) a) s)) ≡ wrong p
+          → ((a b : ℕ) (u : Option Span) → read_parts ws (length cs) columns named kind r n (i + 1) a b u ≡ wrong p → b ≤ length cs → PartsBegun ws (length cs) columns' named kind (i + 1) a b p)
           → PartsBegun ws (length cs) columns' named kind i at k p
-      by_read m (Went a b) f q later = part_before i at k a b p m h f (λ l. later a b _ _ q l)
-      by_read m (Wrong p') f q later =
-          let z : p' ≡ p = cc in
-          part_begun i at k p m (begun ws cs columns columns' (named i) le some depth_limit (at + 1) k p (f ∙ ap Wrong z) h)
+      by_read m (Ok c) f q later = part_before i at k c.at c.next p m h f (λ l. later c.at c.next _ q l)
+      by_read m (Err w) f q later =
+          let z = same_place w.place p q in
+          part_begun i at k p m (begun ws cs columns columns' (named i) le some depth_limit (at + 1) k p (f ∙ ap wrong z) h)
 
       by_mark : (b : Bool) → is_mark ws kind i at ≡ b
-          → cond b (then_parts (read_expr ws (length cs) columns (named i) depth_limit (at + 1) k) (λ a b. read_parts ws (length cs) columns named kind r n (i + 1) a b (cond (eqb i r) (at + 1) s) (cond (eqb i r) a t))) (Stop i at k s t) ≡ Bad p
-          → ((a b u v : ℕ) → read_parts ws (length cs) columns named kind r n (i + 1) a b u v ≡ Bad p → b ≤ length cs → PartsBegun ws (length cs) columns' named kind (i + 1) a b p)
+          → cond b (after (read_expr ws (length cs) columns (named i) depth_limit (at + 1) k) (λ a b. read_parts ws (length cs) columns named kind r n (i + 1) a b (cond (eqb i r) (span (at + 1) a) s))) (stop i at k s) ≡ wrong p
+          → ((a b : ℕ) (u : Option Span) → read_parts ws (length cs) columns named kind r n (i + 1) a b u ≡ wrong p → b ≤ length cs → PartsBegun ws (length cs) columns' named kind (i + 1) a b p)
           → PartsBegun ws (length cs) columns' named kind i at k p
       by_mark true m q later = by_read m (read_expr ws (length cs) columns (named i) depth_limit (at + 1) k) refl q later
-      by_mark false m q later = never_stop i at k s t p q
+      by_mark false m q later = never_stop i at k s p q
 
 -- the objective and the end: what was taken of them
 record EndBegun (ws : List ℕ) (limit columns shared at k p : ℕ) : Type 0 where
@@ -329,7 +330,7 @@ module _ (ws cs : List ℕ) (columns columns' shared : ℕ) (le : columns ≤ co
       }
 
   -- the objective was read, and then the end word or not
-  objective_read : (at k a b p : ℕ) (last rest : List ℕ) → drop at ws ≡ word 12 0 ∷ drop (at + 1) ws → k ≤ length cs → read_expr ws (length cs) columns shared depth_limit (at + 1) k ≡ Went a b
+  objective_read : (at k a b p : ℕ) (last rest : List ℕ) → drop at ws ≡ word 12 0 ∷ drop (at + 1) ws → k ≤ length cs → read_expr ws (length cs) columns shared depth_limit (at + 1) k ≡ went a b
       → drop a ws ≡ last ++ drop p ws → word 13 0 ∷ [] ≡ last ++ rest → p ≡ a + length last → EndBegun ws (length cs) columns' shared at k p
   objective_read at k a b p last rest w h q u v l =
       let (e, s) = sound ws cs columns shared depth_limit (at + 1) k a b q in
@@ -344,32 +345,32 @@ module _ (ws cs : List ℕ) (columns columns' shared : ℕ) (le : columns ≤ co
         few = stay ws cs columns columns' shared le some depth_limit (at + 1) k a b e s h;
       }
 
-  end_begun : (at k p : ℕ) → read_end ws (length cs) columns shared at k ≡ Wrong p → k ≤ length cs → EndBegun ws (length cs) columns' shared at k p
+  end_begun : (at k p : ℕ) → read_end ws (length cs) columns shared at k ≡ wrong p → k ≤ length cs → EndBegun ws (length cs) columns' shared at k p
   unfolding read_end read_last
   end_begun at k p e h = by_mark (is_mark ws 12 0 at) refl e
     where
-      by_last : is_mark ws 12 0 at ≡ true → (a b : ℕ) → read_expr ws (length cs) columns shared depth_limit (at + 1) k ≡ Went a b
-          → (m c l : Bool) → is_mark ws 13 0 a ≡ m → cond m (cond c (cond l (Went (a + 1) b) (Wrong (a + 1))) (Wrong a)) (Wrong a) ≡ Wrong p → EndBegun ws (length cs) columns' shared at k p
+      by_last : is_mark ws 12 0 at ≡ true → (a b : ℕ) → read_expr ws (length cs) columns shared depth_limit (at + 1) k ≡ went a b
+          → (m c l : Bool) → is_mark ws 13 0 a ≡ m → cond m (cond c (cond l (went (a + 1) b) (wrong (a + 1))) (wrong a)) (wrong a) ≡ wrong p → EndBegun ws (length cs) columns' shared at k p
       by_last m a b q true true true f z = never_went (a + 1) b p z
       by_last m a b q true true false f z =
-          let y : a + 1 ≡ p = cc in
+          let y = same_place (a + 1) p z in
           objective_read at k a b p (word 13 0 ∷ []) [] (mark_back ws 12 0 at m).1 h q ((mark_back ws 13 0 a f).1 ∙ ap (λ x. word 13 0 ∷ drop x ws) y) refl (sym y)
       by_last m a b q true false l f z =
-          let y : a ≡ p = cc in
+          let y = same_place a p z in
           objective_read at k a b p [] (word 13 0 ∷ []) (mark_back ws 12 0 at m).1 h q (ap (λ x. drop x ws) y) refl (omega arith)
       by_last m a b q false c l f z =
-          let y : a ≡ p = cc in
+          let y = same_place a p z in
           objective_read at k a b p [] (word 13 0 ∷ []) (mark_back ws 12 0 at m).1 h q (ap (λ x. drop x ws) y) refl (omega arith)
 
-      by_read : is_mark ws 12 0 at ≡ true → (x : Read) → read_expr ws (length cs) columns shared depth_limit (at + 1) k ≡ x → after x (read_last ws (length cs)) ≡ Wrong p → EndBegun ws (length cs) columns' shared at k p
-      by_read m (Went a b) q z = by_last m a b q (is_mark ws 13 0 a) (eqb b (length cs)) (eqb (a + 1) (length ws)) refl z
-      by_read m (Wrong p') q z =
-          let y : p' ≡ p = cc in
-          objective_begun at k p (mark_back ws 12 0 at m).1 (begun ws cs columns columns' shared le some depth_limit (at + 1) k p (q ∙ ap Wrong y) h)
+      by_read : is_mark ws 12 0 at ≡ true → (x : Read Cursor) → read_expr ws (length cs) columns shared depth_limit (at + 1) k ≡ x → after x (read_last ws (length cs)) ≡ wrong p → EndBegun ws (length cs) columns' shared at k p
+      by_read m (Ok c) q z = by_last m c.at c.next q (is_mark ws 13 0 c.at) (eqb c.next (length cs)) (eqb (c.at + 1) (length ws)) refl z
+      by_read m (Err w) q z =
+          let y = same_place w.place p z in
+          objective_begun at k p (mark_back ws 12 0 at m).1 (begun ws cs columns columns' shared le some depth_limit (at + 1) k p (q ∙ ap wrong y) h)
 
-      by_mark : (b : Bool) → is_mark ws 12 0 at ≡ b → cond b (after (read_expr ws (length cs) columns shared depth_limit (at + 1) k) (read_last ws (length cs))) (Wrong at) ≡ Wrong p → EndBegun ws (length cs) columns' shared at k p
+      by_mark : (b : Bool) → is_mark ws 12 0 at ≡ b → cond b (after (read_expr ws (length cs) columns shared depth_limit (at + 1) k) (read_last ws (length cs))) (wrong at) ≡ wrong p → EndBegun ws (length cs) columns' shared at k p
       by_mark true m z = by_read m (read_expr ws (length cs) columns shared depth_limit (at + 1) k) refl z
-      by_mark false m z = no_objective_yet at k p (cc) h
+      by_mark false m z = no_objective_yet at k p (same_place at p z) h
 
 -- the first p words of ws are the beginning of a file that stands for a model one level deeper at most, with at most so many constants
 pub record Begins (ws : List ℕ) (limit columns p : ℕ) : Type 0 where
@@ -453,20 +454,20 @@ module _ (ws cs : List ℕ) (columns columns' r p : ℕ) (le : columns ≤ colum
           (omega (arith, S.ends, R-ends, E.ends, length-append u (v ++ E.front), length-append v E.front))
           (omega (arith, E.few, length-append (constants_of S.parts) (constants_of R.parts ++ constants E.objective), length-append (constants_of R.parts) (constants E.objective)))
 
-  by_outcome : find ws (length cs) columns r ≡ refused MODEL p → Outcome ws (length cs) columns r → Begins ws (length cs) columns' p
+  by_outcome : find ws (length cs) columns r ≡ refused reason.Model p → Outcome ws (length cs) columns r → Begins ws (length cs) columns' p
   by_outcome e (in_shared p' q g) =
-      let z : p' ≡ p = ap (λ f. f.fault.place) (sym g ∙ e) in
-      by_shared (parts_begun ws cs columns columns' (λ i. i) 10 r le some (length ws) 0 0 0 0 0 p (q ∙ ap Bad z) (omega arith))
-  by_outcome e (in_rows s a b u v p' q q' g) =
-      let z : p' ≡ p = ap (λ f. f.fault.place) (sym g ∙ e) in
-      let S = parts_sound ws cs columns (λ i. i) 10 r (length ws) 0 0 0 s a b 0 0 u v q in
-      by_rows s a b S (parts_begun ws cs columns columns' (λ i. s) 11 r le some (length ws) 0 a b 0 0 p (q' ∙ ap Bad z) (below s a b S))
-  by_outcome e (in_end s a b u v n c d x y p' q q' q'' g) =
-      let z : p' ≡ p = ap (λ f. f.fault.place) (sym g ∙ e) in
-      let S = parts_sound ws cs columns (λ i. i) 10 r (length ws) 0 0 0 s a b 0 0 u v q in
-      let R = parts_sound ws cs columns (λ i. s) 11 r (length ws) 0 a b n c d 0 0 x y q' in
-      by_end s a b S n c d R (end_begun ws cs columns columns' s le some c d p (q'' ∙ ap Wrong z) (below_rows s a b S n c d R))
-  by_outcome e (passed s a b u v n c d x y i j q q' q'' g) = absurd (never_both (ltb r n) n x y (ap (λ f. f.fault.number) (sym g ∙ e)))
+      let z : p' ≡ p = ap (λ f. (fault_of f).place) (sym g ∙ e) in
+      by_shared (parts_begun ws cs columns columns' (λ i. i) 10 r le some (length ws) 0 0 0 None p (q ∙ ap wrong z) (omega arith))
+  by_outcome e (in_rows s a b u p' q q' g) =
+      let z : p' ≡ p = ap (λ f. (fault_of f).place) (sym g ∙ e) in
+      let S = parts_sound ws cs columns (λ i. i) 10 r (length ws) 0 0 0 s a b None u q in
+      by_rows s a b S (parts_begun ws cs columns columns' (λ i. s) 11 r le some (length ws) 0 a b None p (q' ∙ ap wrong z) (below s a b S))
+  by_outcome e (in_end s a b u n c d x p' q q' q'' g) =
+      let z : p' ≡ p = ap (λ f. (fault_of f).place) (sym g ∙ e) in
+      let S = parts_sound ws cs columns (λ i. i) 10 r (length ws) 0 0 0 s a b None u q in
+      let R = parts_sound ws cs columns (λ i. s) 11 r (length ws) 0 a b n c d None x q' in
+      by_end s a b S n c d R (end_begun ws cs columns columns' s le some c d p (q'' ∙ ap wrong z) (below_rows s a b S n c d R))
+  by_outcome e (passed s a b u n c d x i j q q' q'' g) = absurd (never_both x n (ap (λ f. (fault_of f).number) (sym g ∙ e)))
 
-  pub begun_file : find ws (length cs) columns r ≡ refused MODEL p → Begins ws (length cs) columns' p
+  pub begun_file : find ws (length cs) columns r ≡ refused reason.Model p → Begins ws (length cs) columns' p
   begun_file e = by_outcome e (outcome ws (length cs) columns r)

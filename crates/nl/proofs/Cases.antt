@@ -4,6 +4,7 @@ use mathlib.Core.List.{List, [], ◌∷◌}
 use Prim.Native.Nat.{ℕ}
 use lib.Dec.{T, eqb}
 use lib.ListN.{take}
+use Rattle.base.specs.Fault.{fault_of}
 use Rattle.nl.specs.Reader.{word_ok, arity, uses, read_head, read_expr, is_mark, read_parts, read_last, read_end}
 use Rattle.nl.specs.Finder.{find_after, find, row_start, row_length}
 
@@ -38,8 +39,8 @@ case ws cs columns r number place start long =
 right : Case → Bool
 unfolding row_start row_length
 right c =
-    cond (eqb (find c.words c.constants c.columns c.row).fault.number c.number)
-    (cond (eqb (find c.words c.constants c.columns c.row).fault.place c.place)
+    cond (eqb (fault_of (find c.words c.constants c.columns c.row)).number c.number)
+    (cond (eqb (fault_of (find c.words c.constants c.columns c.row)).place c.place)
     (cond (eqb (row_start c.words c.constants c.columns c.row) c.start)
     (eqb (row_length c.words c.constants c.columns c.row) c.long) false) false) false
 

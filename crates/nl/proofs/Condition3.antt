@@ -2,17 +2,19 @@
 use mathlib.Core.Path.{◌≡◌, ap, sym, ◌∙◌, subst₂}
 use mathlib.Core.Logic.{◌↔◌}
 use mathlib.Core.List.{List, [], ◌++◌}
-use mathlib.Core.Bool.{Bool, true, false, cond}
 use Prim.Native.Nat.{ℕ, suc, ◌+◌, ◌-◌, ◌≤◌, ◌<◌}
 use native.Mathlib.Omega.{arith}
 use lib.ListN.{length, get_or, take, drop, length-append, get_or-append}
 use lib.Seq.{length-take-le, get_or-take}
-use lib.Dec.{ltb}
+use Rattle.std.specs.Prelude.{Option, Some, None}
 use Rattle.nl.specs.Expr.{Expr, count, words, HasWords}
 use Rattle.nl.specs.File.{Model, model_words, model_constants, StandsWithin, StandsFor, IsRow}
 use Rattle.base.specs.Refusal.{MODEL, ROW}
-use Rattle.nl.specs.Finder.{found, refused, find, row_start, row_length, row_words}
-use Rattle.base.specs.Fault.{fault, clear}
+use Rattle.base.specs.declared.refusal.Reason.{Reason}
+use Rattle.base.specs.declared.refusal.Reason.TheVariants as reason
+use Rattle.base.specs.Fault.{fault, clear, fault_of}
+use Rattle.nl.specs.declared.reader.Span.{Span}
+use Rattle.nl.specs.Finder.{refused, span_of, or_absent, find, row_start, row_length, row_words}
 use Rattle.nl.proofs.Words.{no_proper_beginning}
 use Rattle.nl.proofs.PartSound.{Outcome, in_shared, in_rows, in_end, passed, outcome, file_sound}
 use Rattle.nl.proofs.Unique.{model_unique}
@@ -25,7 +27,7 @@ pub at_most_one : (ws cs : List ℕ) (columns : ℕ) (M N : Model) → StandsFor
 at_most_one ws cs columns M N s t = model_unique ws cs columns columns M N s t
 
 -- 2. "and for one exactly when the finder does not say 17", whichever row r it is asked for.
-pub exactly_when : (ws cs : List ℕ) (columns r : ℕ) → ((M : Model) × StandsFor ws cs columns M) ↔ ¬ ((find ws (length cs) columns r).fault.number ≡ MODEL)
+pub exactly_when : (ws cs : List ℕ) (columns r : ℕ) → ((M : Model) × StandsFor ws cs columns M) ↔ ¬ ((fault_of (find ws (length cs) columns r)).number ≡ MODEL)
 exactly_when ws cs columns r = (λ s. never_17 ws cs columns r s.0 s.1, file_sound ws cs columns r)
 
 -- 3. "it then answers for row r, from 0, the words of that row's expression where they stand": a number below the count has one row, and of that row
@@ -37,46 +39,46 @@ pub only_row : (M : Model) (r start start' k k' : ℕ) (e e' : Expr) → IsRow M
 only_row = one_row
 
 pub row_found : (ws cs : List ℕ) (columns : ℕ) (M : Model) → StandsFor ws cs columns M → (r start k : ℕ) (e : Expr) → IsRow M r start k e
-    → ((find ws (length cs) columns r).fault ≡ clear) × (row_start ws (length cs) columns r ≡ start) × (row_length ws (length cs) columns r ≡ length (words k e)) × (row_words ws (length cs) columns r ≡ words k e)
+    → ((fault_of (find ws (length cs) columns r)) ≡ clear) × (row_start ws (length cs) columns r ≡ start) × (row_length ws (length cs) columns r ≡ length (words k e)) × (row_words ws (length cs) columns r ≡ words k e)
 unfolding row_start row_length
 row_found ws cs columns M S r start k e R =
     let a = answers ws cs columns M S r start k e R in
     let z : start + length (words k e) - start ≡ length (words k e) = omega arith in
-    (ap (λ f. f.fault) a, ap (λ f. f.start) a, ap (λ f. f.end - f.start) a ∙ z, row_is ws cs columns M S r start k e R)
+    (ap (λ f. fault_of f) a, ap (λ f. (span_of f).start) a, ap (λ f. (span_of f).end - (span_of f).start) a ∙ z, row_is ws cs columns M S r start k e R)
 
 -- "and 18 exactly when there is no such row", with the row count.
 pub no_row : (ws cs : List ℕ) (columns : ℕ) (M : Model) → StandsFor ws cs columns M → (r : ℕ)
-    → (((find ws (length cs) columns r).fault.number ≡ ROW) ↔ (count M.rows ≤ r)) × (count M.rows ≤ r → (find ws (length cs) columns r).fault ≡ fault ROW (count M.rows))
-no_row ws cs columns M S r = ((to (answer ws cs columns r M S), λ h. ap (λ f. f.fault.number) (past ws cs columns M S r h)), λ h. ap (λ f. f.fault) (past ws cs columns M S r h))
+    → (((fault_of (find ws (length cs) columns r)).number ≡ ROW) ↔ (count M.rows ≤ r)) × (count M.rows ≤ r → (fault_of (find ws (length cs) columns r)) ≡ fault ROW (count M.rows))
+no_row ws cs columns M S r = ((to (answer ws cs columns r M S), λ h. ap (λ f. (fault_of f).number) (past ws cs columns M S r h)), λ h. ap (λ f. fault_of f) (past ws cs columns M S r h))
   where
-    to : Answer ws cs columns r M → (find ws (length cs) columns r).fault.number ≡ ROW → count M.rows ≤ r
-    to (row_at start k x R lt f) e = absurd (omega (arith, ap (λ y. y.fault.number) f, e))
+    to : Answer ws cs columns r M → (fault_of (find ws (length cs) columns r)).number ≡ ROW → count M.rows ≤ r
+    to (row_at start k x R lt f) e = absurd (omega (arith, ap (λ y. (fault_of y).number) f, e))
     to (no_such le f) e = le
 
 -- The part "is empty when refused", of any words at all.
-pub refused_empty : (ws : List ℕ) (constants columns r : ℕ) → ¬ ((find ws constants columns r).fault.number ≡ 0)
+pub refused_empty : (ws : List ℕ) (constants columns r : ℕ) → ¬ ((fault_of (find ws constants columns r)).number ≡ 0)
     → (row_start ws constants columns r ≡ 0) × (row_length ws constants columns r ≡ 0) × (row_words ws constants columns r ≡ [])
 unfolding row_start row_length row_words
 refused_empty ws constants columns r h = go (outcome ws constants columns r)
   where
-    nothing : (n p : ℕ) → find ws constants columns r ≡ refused n p
-        → ((find ws constants columns r).start ≡ 0) × ((find ws constants columns r).end - (find ws constants columns r).start ≡ 0)
-        × (take ((find ws constants columns r).end - (find ws constants columns r).start) (drop (find ws constants columns r).start ws) ≡ [])
-    nothing n p g = (ap (λ f. f.start) g, ap (λ f. f.end - f.start) g, ap (λ f. take (f.end - f.start) (drop f.start ws)) g)
+    nothing : (n : Reason) (p : ℕ) → find ws constants columns r ≡ refused n p
+        → ((span_of (find ws constants columns r)).start ≡ 0) × ((span_of (find ws constants columns r)).end - (span_of (find ws constants columns r)).start ≡ 0)
+        × (take ((span_of (find ws constants columns r)).end - (span_of (find ws constants columns r)).start) (drop (span_of (find ws constants columns r)).start ws) ≡ [])
+    nothing n p g = (ap (λ f. (span_of f).start) g, ap (λ f. (span_of f).end - (span_of f).start) g, ap (λ f. take ((span_of f).end - (span_of f).start) (drop (span_of f).start ws)) g)
 
-    by_row : (b : Bool) (n x y : ℕ) → find ws constants columns r ≡ cond b (found x y) (refused ROW n)
-        → ((find ws constants columns r).start ≡ 0) × ((find ws constants columns r).end - (find ws constants columns r).start ≡ 0)
-        × (take ((find ws constants columns r).end - (find ws constants columns r).start) (drop (find ws constants columns r).start ws) ≡ [])
-    by_row true n x y g = absurd (h (ap (λ f. f.fault.number) g))
-    by_row false n x y g = nothing ROW n g
+    by_row : (x : Option Span) (n : ℕ) → find ws constants columns r ≡ or_absent x n
+        → ((span_of (find ws constants columns r)).start ≡ 0) × ((span_of (find ws constants columns r)).end - (span_of (find ws constants columns r)).start ≡ 0)
+        × (take ((span_of (find ws constants columns r)).end - (span_of (find ws constants columns r)).start) (drop (span_of (find ws constants columns r)).start ws) ≡ [])
+    by_row (Some s) n g = absurd (h (ap (λ f. (fault_of f).number) g))
+    by_row None n g = nothing reason.Row n g
 
     go : Outcome ws constants columns r
-        → ((find ws constants columns r).start ≡ 0) × ((find ws constants columns r).end - (find ws constants columns r).start ≡ 0)
-        × (take ((find ws constants columns r).end - (find ws constants columns r).start) (drop (find ws constants columns r).start ws) ≡ [])
-    go (in_shared p q g) = nothing MODEL p g
-    go (in_rows s a b u v p q q' g) = nothing MODEL p g
-    go (in_end s a b u v n c d x y p q q' q'' g) = nothing MODEL p g
-    go (passed s a b u v n c d x y i j first second third g) = by_row (ltb r n) n x y g
+        → ((span_of (find ws constants columns r)).start ≡ 0) × ((span_of (find ws constants columns r)).end - (span_of (find ws constants columns r)).start ≡ 0)
+        × (take ((span_of (find ws constants columns r)).end - (span_of (find ws constants columns r)).start) (drop (span_of (find ws constants columns r)).start ws) ≡ [])
+    go (in_shared p q g) = nothing reason.Model p g
+    go (in_rows s a b u p q q' g) = nothing reason.Model p g
+    go (in_end s a b u n c d x p q q' q'' g) = nothing reason.Model p g
+    go (passed s a b u n c d x i j first second third g) = by_row x n g
 
 -- 4. "Any two files that pass reading, whoever wrote them and whatever their numbers of columns, have equal words and bitwise equal constants exactly when they
 -- stand for the same shared parts, rows and objective, term by term in order."
@@ -91,38 +93,38 @@ pub prefix_free : (e e' : Expr) (k k' : ℕ) (xs : List ℕ) → HasWords k e �
 prefix_free = no_proper_beginning
 
 -- a refusal with 17 has no part
-pub seventeen : (ws : List ℕ) (constants columns r p : ℕ) → (find ws constants columns r).fault ≡ fault MODEL p → find ws constants columns r ≡ refused MODEL p
+pub seventeen : (ws : List ℕ) (constants columns r p : ℕ) → (fault_of (find ws constants columns r)) ≡ fault MODEL p → find ws constants columns r ≡ refused reason.Model p
 seventeen ws constants columns r p e = go (outcome ws constants columns r)
   where
-    at_place : (p' : ℕ) → find ws constants columns r ≡ refused MODEL p' → find ws constants columns r ≡ refused MODEL p
-    at_place p' g = let z : p' ≡ p = sym (ap (λ f. f.fault.place) g) ∙ ap (λ f. f.place) e in g ∙ ap (refused MODEL) z
+    at_place : (p' : ℕ) → find ws constants columns r ≡ refused reason.Model p' → find ws constants columns r ≡ refused reason.Model p
+    at_place p' g = let z : p' ≡ p = sym (ap (λ f. (fault_of f).place) g) ∙ ap (λ f. f.place) e in g ∙ ap (refused reason.Model) z
 
-    go : Outcome ws constants columns r → find ws constants columns r ≡ refused MODEL p
+    go : Outcome ws constants columns r → find ws constants columns r ≡ refused reason.Model p
     go (in_shared p' q g) = at_place p' g
-    go (in_rows s a b u v p' q q' g) = at_place p' g
-    go (in_end s a b u v n c d x y p' q q' q'' g) = at_place p' g
-    go (passed s a b u v n c d x y i j first second third g) = absurd (never_both (ltb r n) n x y (ap (λ f. f.fault.number) (sym g) ∙ ap (λ f. f.number) e))
+    go (in_rows s a b u p' q q' g) = at_place p' g
+    go (in_end s a b u n c d x p' q q' q'' g) = at_place p' g
+    go (passed s a b u n c d x i j first second third g) = absurd (never_both x n (ap (λ f. (fault_of f).number) (sym g) ∙ ap (λ f. f.number) e))
 
 -- 17 and its place are the same "whichever row is asked for".
-pub any_row : (ws : List ℕ) (constants columns r r' p : ℕ) → (find ws constants columns r).fault ≡ fault MODEL p → (find ws constants columns r').fault ≡ fault MODEL p
-any_row ws constants columns r r' p e = ap (λ f. f.fault) (refused_any_row ws constants columns r r' p (seventeen ws constants columns r p e))
+pub any_row : (ws : List ℕ) (constants columns r r' p : ℕ) → (fault_of (find ws constants columns r)) ≡ fault MODEL p → (fault_of (find ws constants columns r')) ≡ fault MODEL p
+any_row ws constants columns r r' p e = ap (λ f. fault_of f) (refused_any_row ws constants columns r r' p (seventeen ws constants columns r p e))
 
 -- 6. The place of 17 is "first wrong word left to right, length if they run out, the end word if constants are left over". Said without the reader:
 -- (a) The word at the place is wrong whatever follows: no file of as many constants and columns that passes begins with the words up to and with it.
-pub wrong_word : (ws cs : List ℕ) (columns r p : ℕ) → (find ws (length cs) columns r).fault ≡ fault MODEL p → p < length ws
+pub wrong_word : (ws cs : List ℕ) (columns r p : ℕ) → (fault_of (find ws (length cs) columns r)) ≡ fault MODEL p → p < length ws
     → (rest cs' : List ℕ) (M : Model) → length cs' ≡ length cs → StandsFor (take (suc p) ws ++ rest) cs' columns M → ⊥
 wrong_word ws cs columns r p e h rest cs' M n S =
     let l : length (take (suc p) ws) ≡ suc p = length-take-le (suc p) ws h in
     let l' = length-append (take (suc p) ws) rest in
     let like : (i : ℕ) → i < suc p → get_or (take (suc p) ws ++ rest) i 0 ≡ get_or ws i 0 = λ i lt. get_or-append (take (suc p) ws) rest 0 i (omega arith) ∙ get_or-take (suc p) ws i 0 lt in
     let f = refused_alike ws (take (suc p) ws ++ rest) (suc p) h (omega arith) like (length cs) columns r p (omega arith) (seventeen ws (length cs) columns r p e) in
-    never_17 (take (suc p) ws ++ rest) cs' columns r M S (ap (λ x. (find (take (suc p) ws ++ rest) x columns r).fault.number) n ∙ ap (λ y. y.fault.number) f)
+    never_17 (take (suc p) ws ++ rest) cs' columns r M S (ap (λ x. (fault_of (find (take (suc p) ws ++ rest) x columns r)).number) n ∙ ap (λ y. (fault_of y).number) f)
 
 -- (b) The words before the place are right: some file begins with them. It keeps all rules but three, and for each the smallest file shows that it can't always be kept:
 -- it may have fewer constants (C0000000 10000000 with 1 constant, place 2: only D0000000 can follow, and then a constant is left over);
 -- it may nest 9 deep, since an operator 8 deep is taken and the word after it is the wrong one (C0000000 and eight times 60000000, place 9);
 -- it has a column, since without columns and constants there is no leaf (no words, place 0: no file passes).
-pub right_before : (ws cs : List ℕ) (columns columns' r p : ℕ) → (find ws (length cs) columns r).fault ≡ fault MODEL p → columns ≤ columns' → 1 ≤ columns'
+pub right_before : (ws cs : List ℕ) (columns columns' r p : ℕ) → (fault_of (find ws (length cs) columns r)) ≡ fault MODEL p → columns ≤ columns' → 1 ≤ columns'
     → (p ≤ length ws) × ((M : Model) × (rest : List ℕ) × (cs' : List ℕ) × StandsWithin 9 (take p ws ++ rest) cs' columns' M × (length cs' ≤ length cs))
 right_before ws cs columns columns' r p e le some =
     let B = begun_file ws cs columns columns' r p le some (seventeen ws (length cs) columns r p e) in

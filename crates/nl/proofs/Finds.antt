@@ -1,28 +1,31 @@
 -- In a file that stands for a model the finder answers each row, and 18 past the last.
 use mathlib.Core.Path.{◌≡◌, refl, ap, ap₂, sym, ◌∙◌}
 use mathlib.Core.List.{List, [], ◌∷◌, ◌++◌, append_assoc, append-nil}
-use mathlib.Core.Bool.{Bool, true, false, cond}
+use mathlib.Core.Bool.{Bool, true, false}
 use Prim.Native.Nat.{ℕ, zero, suc, ◌+◌, ◌-◌, ◌≤◌, ◌<◌}
 use native.Mathlib.Omega.{arith}
 use native.Mathlib.Nat.{add-zero, zero-add}
 use lib.ListN.{length, take, drop, replicate, length-replicate, length-append, length-drop}
 use lib.Seq.{take_at}
 use lib.Dec.{ltb}
-use borrow.Author.Tests.{lt-ltb, le-ltb, eq-eqb, ltb-true, ltb-false}
+use borrow.Author.Tests.{eq-eqb, ltb-true, ltb-false}
+use Rattle.std.specs.Prelude.{Option, Some, None, Result}
 use Rattle.base.specs.Word.{word, kind_of}
-use Rattle.nl.specs.declared.Read.TheVariants.{Went}
-use Rattle.nl.specs.declared.Parts.TheVariants.{Stop}
-use Rattle.nl.specs.declared.Found.{Found}
 use Rattle.nl.specs.Expr.{Expr, Terms, none, more, count, constants, constants_of, next, words}
 use Rattle.nl.specs.File.{Model, part_words, at_rows, at_objective, model_words, model_constants, Ruled, PartsRuled, depth_limit, StandsFor, join, IsRow}
-use Rattle.nl.specs.Reader.{is_mark, read_parts, read_last, read_end}
-use Rattle.base.specs.Refusal.{MODEL, ROW}
-use Rattle.nl.specs.Finder.{found, refused, find_after, find, row_words}
+use Rattle.nl.specs.Reader.{went, stop, span, is_mark, read_parts, read_last, read_end}
+use Rattle.base.specs.Refusal.{MODEL}
+use Rattle.base.specs.declared.refusal.Refusal.{Refusal}
+use Rattle.base.specs.declared.refusal.Reason.{Reason}
+use Rattle.base.specs.declared.refusal.Reason.TheVariants as reason
+use Rattle.base.specs.Fault.{fault_of}
+use Rattle.nl.specs.declared.reader.Span.{Span}
+use Rattle.nl.specs.Finder.{found, refused, span_of, or_absent, find_after, find, row_words}
 use Rattle.nl.proofs.Build.{drop_past, get_d_here}
 use Rattle.nl.proofs.Complete.{complete}
 use Rattle.nl.proofs.Sound.{some_words}
 use Rattle.nl.proofs.PartSteps.{marked}
-use Rattle.nl.proofs.PartComplete.{mark_here, mark_in, start_of, end_of, mark_at, parts_complete}
+use Rattle.nl.proofs.PartComplete.{mark_here, mark_in, mark_at, mark_beyond, parts_complete}
 use Rattle.nl.proofs.PartSound.{Outcome, in_shared, in_rows, in_end, passed, outcome, file_sound}
 use Rattle.nl.proofs.Unique.{Other, drop_from, other_shared, other_objective}
 
@@ -43,14 +46,14 @@ count_le kind i k (more e ts) = omega (arith, count_le kind (i + 1) (next k e) t
 -- all the parts of one kind
 pub all : (ws cs : List ℕ) (columns : ℕ) (named : ℕ → ℕ) (kind r at k : ℕ) (ts : Terms) (rest rest' : List ℕ) → PartsRuled depth_limit columns named 0 k ts
     → at ≤ length ws → drop at ws ≡ part_words kind 0 k ts ++ rest → drop k cs ≡ constants_of ts ++ rest' → Other kind rest
-    → read_parts ws (length cs) columns named kind r (length ws) 0 at k 0 0 ≡ Stop (count ts) (at + length (part_words kind 0 k ts)) (k + length (constants_of ts)) (mark_in start_of r 0 at k ts 0) (mark_in end_of r 0 at k ts 0)
+    → read_parts ws (length cs) columns named kind r (length ws) 0 at k None ≡ stop (count ts) (at + length (part_words kind 0 k ts)) (k + length (constants_of ts)) (mark_in r 0 at k ts None)
 all ws cs columns named kind r at k ts rest rest' h l p q o =
-    rw zero-add at (parts_complete ws cs columns named kind r ts (length ws) 0 at k 0 0 rest rest' h
+    rw zero-add at (parts_complete ws cs columns named kind r ts (length ws) 0 at k None rest rest' h
     (omega (arith, count_le kind 0 k ts, length-drop at ws, ap length p, length-append (part_words kind 0 k ts) rest)) p q
     (λ lt. not_mark ws kind (0 + count ts) _ rest (drop_past at ws (part_words kind 0 k ts) rest p) o))
 
 pub end_complete : (ws cs : List ℕ) (columns shared at k : ℕ) (e : Expr) → Ruled depth_limit columns shared k e → drop at ws ≡ word 12 0 ∷ words k e ++ (word 13 0 ∷ []) → drop k cs ≡ constants e ++ [] → k ≤ length cs
-    → read_end ws (length cs) columns shared at k ≡ Went (at + 1 + length (words k e) + 1) (next k e)
+    → read_end ws (length cs) columns shared at k ≡ went (at + 1 + length (words k e) + 1) (next k e)
 unfolding read_end read_last
 end_complete ws cs columns shared at k e h p q kl =
     let p' = drop_past at ws (word 12 0 ∷ []) _ p in
@@ -91,7 +94,7 @@ module _ (ws cs : List ℕ) (columns : ℕ) (M : Model) (S : StandsFor ws cs col
 
   -- the finder reads to the end, and then goes by the number of rows
   pub finds : (r : ℕ) → find ws (length cs) columns r
-      ≡ cond (ltb r (count M.rows)) (found (mark_in start_of r 0 (rows_from M) (at_rows M) M.rows 0) (mark_in end_of r 0 (rows_from M) (at_rows M) M.rows 0)) (refused ROW (count M.rows))
+      ≡ or_absent (mark_in r 0 (rows_from M) (at_rows M) M.rows None) (count M.rows)
   unfolding model_words model_constants find find_after
   finds r =
       let a = rw (zero-add, zero-add) at (all ws cs columns (λ i. i) 10 r 0 0 M.shared _ _ S.shared_ruled (omega arith) S.its_words S.its_constants (other_shared _ M.rows _)) in
@@ -102,8 +105,8 @@ module _ (ws cs : List ℕ) (columns : ℕ) (M : Model) (S : StandsFor ws cs col
       (drop_past (rows_from M) ws (part_words 11 0 (at_rows M) M.rows) _ rows_words) (drop_past (at_rows M) cs (constants_of M.rows) _ rows_values ∙ sym (append-nil _)) kl in
       rw (a, b, e)
 
-  pub past : (r : ℕ) → count M.rows ≤ r → find ws (length cs) columns r ≡ refused ROW (count M.rows)
-  past r h = finds r ∙ rw (le-ltb r (count M.rows) h)
+  pub past : (r : ℕ) → count M.rows ≤ r → find ws (length cs) columns r ≡ refused reason.Row (count M.rows)
+  past r h = finds r ∙ ap (λ x. or_absent x (count M.rows)) (mark_beyond 11 r M.rows 0 (rows_from M) (at_rows M) None (omega arith))
 
   module _ (r start k : ℕ) (e : Expr) (R : IsRow M r start k e) where
     row_words_is : drop start ws ≡ words k e ++ (part_words 11 (0 + count R.earlier + 1) (next k e) R.later ++ past_rows M)
@@ -118,20 +121,17 @@ module _ (ws cs : List ℕ) (columns : ℕ) (M : Model) (S : StandsFor ws cs col
 
     pub answers : find ws (length cs) columns r ≡ found start (start + length (words k e))
     answers =
-        let lt : r < count M.rows = omega (arith, ap count R.rows, count_join R.earlier (more e R.later), R.number) in
         let n : r ≡ 0 + count R.earlier = R.number ∙ sym (zero-add _) in
-        let s : mark_in start_of r 0 (rows_from M) (at_rows M) M.rows 0 ≡ start =
-        ap (λ x. mark_in start_of r 0 (rows_from M) (at_rows M) x 0) R.rows ∙ mark_at start_of 11 r R.earlier R.later e 0 (rows_from M) (at_rows M) 0 n ∙ sym R.begins in
-        let t : mark_in end_of r 0 (rows_from M) (at_rows M) M.rows 0 ≡ start + length (words k e) =
-        ap (λ x. mark_in end_of r 0 (rows_from M) (at_rows M) x 0) R.rows ∙ mark_at end_of 11 r R.earlier R.later e 0 (rows_from M) (at_rows M) 0 n
-        ∙ ap₂ (λ x y. x + length (words y e)) (sym R.begins) (sym R.first) in
-        finds r ∙ rw (lt-ltb r (count M.rows) lt, s, t)
+        let s : mark_in r 0 (rows_from M) (at_rows M) M.rows None ≡ span start (start + length (words k e)) =
+        ap (λ x. mark_in r 0 (rows_from M) (at_rows M) x None) R.rows ∙ mark_at 11 r R.earlier R.later e 0 (rows_from M) (at_rows M) None n
+        ∙ ap₂ (λ x y. span x (x + length (words y e))) (sym R.begins) (sym R.first) in
+        finds r ∙ ap (λ x. or_absent x (count M.rows)) s
 
     pub row_is : row_words ws (length cs) columns r ≡ words k e
     unfolding row_words
     row_is =
         let z : start + length (words k e) - start ≡ length (words k e) = omega arith in
-        ap (λ f. take (f.end - f.start) (drop f.start ws)) answers ∙ rw (z, row_words_is) (take_at (words k e) _ (length (words k e)) refl)
+        ap (λ f. take ((span_of f).end - (span_of f).start) (drop (span_of f).start ws)) answers ∙ rw (z, row_words_is) (take_at (words k e) _ (length (words k e)) refl)
 
     pub row_inside : start + length (words k e) ≤ length ws
     row_inside = omega (arith, length-drop start ws, ap length row_words_is, length-append (words k e) (part_words 11 (0 + count R.earlier + 1) (next k e) R.later ++ past_rows M), some_words k e)
@@ -170,7 +170,7 @@ one_row M r start start' k k' e e' R R' =
 -- the finder's answer, by whether there is such a row
 pub data Answer (ws cs : List ℕ) (columns r : ℕ) (M : Model) : Type 0 where
   row_at : (start k : ℕ) (e : Expr) → IsRow M r start k e → r < count M.rows → find ws (length cs) columns r ≡ found start (start + length (words k e)) → Answer ws cs columns r M
-  no_such : count M.rows ≤ r → find ws (length cs) columns r ≡ refused ROW (count M.rows) → Answer ws cs columns r M
+  no_such : count M.rows ≤ r → find ws (length cs) columns r ≡ refused reason.Row (count M.rows) → Answer ws cs columns r M
 
 pub answer : (ws cs : List ℕ) (columns r : ℕ) (M : Model) → StandsFor ws cs columns M → Answer ws cs columns r M
 answer ws cs columns r M S = go (ltb r (count M.rows)) refl
@@ -183,38 +183,39 @@ answer ws cs columns r M S = go (ltb r (count M.rows)) refl
     go false h = let le = ltb-false r (count M.rows) h in no_such le (past ws cs columns M S r le)
 
 -- the finder says 17 of no file that stands for a model
-pub never_17 : (ws cs : List ℕ) (columns r : ℕ) (M : Model) → StandsFor ws cs columns M → (find ws (length cs) columns r).fault.number ≡ MODEL → ⊥
+pub never_17 : (ws cs : List ℕ) (columns r : ℕ) (M : Model) → StandsFor ws cs columns M → (fault_of (find ws (length cs) columns r)).number ≡ MODEL → ⊥
 never_17 ws cs columns r M S e = go (answer ws cs columns r M S)
   where
     go : Answer ws cs columns r M → ⊥
-    go (row_at start k x R lt f) = omega (arith, ap (λ y. y.fault.number) f)
-    go (no_such le f) = omega (arith, ap (λ y. y.fault.number) f)
+    go (row_at start k x R lt f) = omega (arith, ap (λ y. (fault_of y).number) f)
+    go (no_such le f) = omega (arith, ap (λ y. (fault_of y).number) f)
+
+-- a row that is not there is not refused with 17
+pub never_both : (x : Option Span) (rows : ℕ) → (fault_of (or_absent x rows)).number ≡ MODEL → ⊥
+never_both (Some s) rows e = omega arith
+never_both None rows e = omega arith
 
 -- what the finder answers lies inside the words
-abbrev pub Inside : List ℕ → Found → Type 0
-Inside ws f = (f.start ≤ f.end) × (f.end ≤ length ws)
+module _ (ws : List ℕ) (constants columns r : ℕ) where
+  abbrev Inside : Result Span Refusal → Type 0
+  Inside f = ((span_of f).start ≤ (span_of f).end) × ((span_of f).end ≤ length ws)
 
-pub never_both : (b : Bool) (n x y : ℕ) → (cond b (found x y) (refused ROW n)).fault.number ≡ MODEL → ⊥
-never_both true n x y e = omega arith
-never_both false n x y e = omega arith
+  nowhere : (reason : Reason) (p : ℕ) → find ws constants columns r ≡ refused reason p → Inside (find ws constants columns r)
+  nowhere reason p q = let z = ap span_of q in (omega (arith, ap (λ y. y.start) z, ap (λ y. y.end) z), omega (arith, ap (λ y. y.end) z))
 
-module _ (ws : List ℕ) (constants columns r : ℕ) (f : Found) (e : f ≡ find ws constants columns r) where
-  nowhere : (n p : ℕ) → find ws constants columns r ≡ refused n p → Inside ws f
-  nowhere n p q = let z = e ∙ q in (omega (arith, ap (λ y. y.start) z, ap (λ y. y.end) z), omega (arith, ap (λ y. y.end) z))
-
-  by_answer : (cs : List ℕ) (M : Model) → constants ≡ length cs → StandsFor ws cs columns M → Answer ws cs columns r M → Inside ws f
+  by_answer : (cs : List ℕ) (M : Model) → constants ≡ length cs → StandsFor ws cs columns M → Answer ws cs columns r M → Inside (find ws constants columns r)
   by_answer cs M len S (row_at start k x R lt q) =
-      let z : f ≡ found start (start + length (words k x)) = e ∙ ap (λ n. find ws n columns r) len ∙ q in
+      let z = ap span_of (ap (λ n. find ws n columns r) len ∙ q) in
       (omega (arith, ap (λ y. y.start) z, ap (λ y. y.end) z), omega (arith, ap (λ y. y.end) z, row_inside ws cs columns M S r start k x R))
-  by_answer cs M len S (no_such le q) = nowhere ROW (count M.rows) (ap (λ n. find ws n columns r) len ∙ q)
+  by_answer cs M len S (no_such le q) = nowhere reason.Row (count M.rows) (ap (λ n. find ws n columns r) len ∙ q)
 
-  by_outcome : (cs : List ℕ) → constants ≡ length cs → Outcome ws constants columns r → Inside ws f
-  by_outcome cs len (in_shared p q g) = nowhere MODEL p g
-  by_outcome cs len (in_rows s a b u v p q q' g) = nowhere MODEL p g
-  by_outcome cs len (in_end s a b u v n c d x y p q q' q'' g) = nowhere MODEL p g
-  by_outcome cs len (passed s a b u v n c d x y i j first second third g) =
-      let (M, S) = file_sound ws cs columns r (λ z. never_both (ltb r n) n x y (ap (λ w. w.fault.number) (sym g) ∙ ap (λ m. (find ws m columns r).fault.number) len ∙ z)) in
+  by_outcome : (cs : List ℕ) → constants ≡ length cs → Outcome ws constants columns r → Inside (find ws constants columns r)
+  by_outcome cs len (in_shared p q g) = nowhere reason.Model p g
+  by_outcome cs len (in_rows s a b u p q q' g) = nowhere reason.Model p g
+  by_outcome cs len (in_end s a b u n c d x p q q' q'' g) = nowhere reason.Model p g
+  by_outcome cs len (passed s a b u n c d x i j first second third g) =
+      let (M, S) = file_sound ws cs columns r (λ z. never_both x n (ap (λ w. (fault_of w).number) (sym g) ∙ ap (λ m. (fault_of (find ws m columns r)).number) len ∙ z)) in
       by_answer cs M len S (answer ws cs columns r M S)
 
-  pub inside_words : Inside ws f
-  inside_words = by_outcome (replicate constants 0) (sym (length-replicate {A = ℕ} constants 0)) (outcome ws constants columns r)
+  pub inside_words : (s : Span) → s ≡ span_of (find ws constants columns r) → (s.start ≤ s.end) × (s.end ≤ length ws)
+  inside_words s e = rw e (by_outcome (replicate constants 0) (sym (length-replicate {A = ℕ} constants 0)) (outcome ws constants columns r))

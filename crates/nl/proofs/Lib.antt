@@ -9,7 +9,6 @@ pub mod PartComplete
 pub mod PartSound
 pub mod Unique
 pub mod Finds
-pub mod Agree
 pub mod Alike
 pub mod Begun
 pub mod Condition3

@@ -8,11 +8,13 @@ use native.Mathlib.Nat.{add-zero}
 use lib.ListN.{length, drop, length-append}
 use lib.Dec.{eqb}
 use borrow.Author.Tests.{lt-ltb, eq-eqb, ne_eqb}
+use Rattle.std.specs.Prelude.{Option}
 use Rattle.base.specs.Word.{word, kind_of, load_of}
-use Rattle.nl.specs.declared.Parts.TheVariants.{Stop}
+use Rattle.nl.specs.Finder.{found}
 use Rattle.nl.specs.Expr.{load_limit, Expr, Terms, none, more, count, constants, constants_of, next, words}
 use Rattle.nl.specs.File.{part_words, PartsRuled, depth_limit, join}
-use Rattle.nl.specs.Reader.{is_mark, read_parts}
+use Rattle.nl.specs.declared.reader.Span.{Span}
+use Rattle.nl.specs.Reader.{stop, span, is_mark, read_parts}
 use Rattle.nl.proofs.Words.{kind_word, load_word}
 use Rattle.nl.proofs.Build.{drop_past, get_d_here}
 use Rattle.nl.proofs.Complete.{inside, complete}
@@ -23,47 +25,51 @@ mark_here ws kind load at rest h p =
     let w = get_d_here at ws (word kind load) rest p in
     rw (lt-ltb at (length ws) (inside at ws (word kind load) rest p), eq-eqb _ kind (ap kind_of w ∙ kind_word kind load h), eq-eqb _ load (ap load_of w ∙ load_word kind load h))
 
--- what f says of part r, among parts that start at `at`; v where there is none
-abbrev pub mark_in : (ℕ → ℕ → Expr → ℕ) → ℕ → ℕ → ℕ → ℕ → Terms → ℕ → ℕ
-mark_in f r i at k none v = v
-mark_in f r i at k (more e ts) v = mark_in f r (i + 1) (at + 1 + length (words k e)) (next k e) ts (cond (eqb i r) (f at k e) v)
+-- where the expression of a part stands that begins at `at`
+abbrev pub span_at : ℕ → ℕ → Expr → Option Span
+span_at at k e = span (at + 1) (at + 1 + length (words k e))
 
-abbrev pub start_of : ℕ → ℕ → Expr → ℕ
-start_of at k e = at + 1
+-- the same of part r, among parts from part i on that start at `at`; found where it is not among them
+abbrev pub mark_in : ℕ → ℕ → ℕ → ℕ → Terms → Option Span → Option Span
+mark_in r i at k none found = found
+mark_in r i at k (more e ts) found = mark_in r (i + 1) (at + 1 + length (words k e)) (next k e) ts (cond (eqb i r) (span_at at k e) found)
 
-abbrev pub end_of : ℕ → ℕ → Expr → ℕ
-end_of at k e = at + 1 + length (words k e)
+module _ (kind r : ℕ) where
+  pub mark_past : (ts : Terms) (i at k : ℕ) (found : Option Span) → r < i → mark_in r i at k ts found ≡ found
+  mark_past none i at k found h = refl
+  mark_past (more e ts) i at k found h =
+      mark_past ts (i + 1) (at + 1 + length (words k e)) (next k e) (cond (eqb i r) (span_at at k e) found) (omega arith)
+      ∙ ap (λ t. cond t (span_at at k e) found) (ne_eqb i r (λ z. omega arith))
 
-module _ (f : ℕ → ℕ → Expr → ℕ) (kind r : ℕ) where
-  pub mark_past : (ts : Terms) (i at k v : ℕ) → r < i → mark_in f r i at k ts v ≡ v
-  mark_past none i at k v h = refl
-  mark_past (more e ts) i at k v h =
-      mark_past ts (i + 1) (at + 1 + length (words k e)) (next k e) (cond (eqb i r) (f at k e) v) (omega arith)
-      ∙ ap (λ t. cond t (f at k e) v) (ne_eqb i r (λ z. omega arith))
+  pub mark_beyond : (ts : Terms) (i at k : ℕ) (found : Option Span) → i + count ts ≤ r → mark_in r i at k ts found ≡ found
+  mark_beyond none i at k found h = refl
+  mark_beyond (more e ts) i at k found h =
+      mark_beyond ts (i + 1) (at + 1 + length (words k e)) (next k e) (cond (eqb i r) (span_at at k e) found) (omega arith)
+      ∙ ap (λ t. cond t (span_at at k e) found) (ne_eqb i r (λ z. omega arith))
 
-  pub mark_at : (ps us : Terms) (e : Expr) (i at k v : ℕ) → r ≡ i + count ps
-      → mark_in f r i at k (join ps (more e us)) v ≡ f (at + length (part_words kind i k ps)) (k + length (constants_of ps)) e
+  pub mark_at : (ps us : Terms) (e : Expr) (i at k : ℕ) (found : Option Span) → r ≡ i + count ps
+      → mark_in r i at k (join ps (more e us)) found ≡ span_at (at + length (part_words kind i k ps)) (k + length (constants_of ps)) e
   unfolding part_words constants_of
-  mark_at none us e i at k v h =
-      mark_past us (i + 1) (at + 1 + length (words k e)) (next k e) (cond (eqb i r) (f at k e) v) (omega arith)
-      ∙ ap (λ t. cond t (f at k e) v) (eq-eqb i r (omega arith)) ∙ rw (add-zero at, add-zero k)
-  mark_at (more x ps) us e i at k v h =
+  mark_at none us e i at k found h =
+      mark_past us (i + 1) (at + 1 + length (words k e)) (next k e) (cond (eqb i r) (span_at at k e) found) (omega arith)
+      ∙ ap (λ t. cond t (span_at at k e) found) (eq-eqb i r (omega arith)) ∙ rw (add-zero at, add-zero k)
+  mark_at (more x ps) us e i at k found h =
       let a : at + 1 + length (words k x) + length (part_words kind (i + 1) (next k x) ps) ≡ at + length (word kind i ∷ words k x ++ part_words kind (i + 1) (next k x) ps) = omega (arith, length-append (words k x) (part_words kind (i + 1) (next k x) ps)) in
       let b : next k x + length (constants_of ps) ≡ k + length (constants x ++ constants_of ps) = omega (arith, length-append (constants x) (constants_of ps)) in
-      rw (a, b) at (mark_at ps us e (i + 1) (at + 1 + length (words k x)) (next k x) (cond (eqb i r) (f at k x) v) (omega arith))
+      rw (a, b) at (mark_at ps us e (i + 1) (at + 1 + length (words k x)) (next k x) (cond (eqb i r) (span_at at k x) found) (omega arith))
 
 module _ (ws cs : List ℕ) (columns : ℕ) (named : ℕ → ℕ) (kind r : ℕ) where
-  pub parts_complete : (ts : Terms) (n i at k start end : ℕ) (rest rest' : List ℕ) → PartsRuled depth_limit columns named i k ts → count ts ≤ n → drop at ws ≡ part_words kind i k ts ++ rest → drop k cs ≡ constants_of ts ++ rest'
+  pub parts_complete : (ts : Terms) (n i at k : ℕ) (found : Option Span) (rest rest' : List ℕ) → PartsRuled depth_limit columns named i k ts → count ts ≤ n → drop at ws ≡ part_words kind i k ts ++ rest → drop k cs ≡ constants_of ts ++ rest'
       → (count ts < n → is_mark ws kind (i + count ts) (at + length (part_words kind i k ts)) ≡ false)
-      → read_parts ws (length cs) columns named kind r n i at k start end
-      ≡ Stop (i + count ts) (at + length (part_words kind i k ts)) (k + length (constants_of ts)) (mark_in start_of r i at k ts start) (mark_in end_of r i at k ts end)
+      → read_parts ws (length cs) columns named kind r n i at k found
+      ≡ stop (i + count ts) (at + length (part_words kind i k ts)) (k + length (constants_of ts)) (mark_in r i at k ts found)
   unfolding part_words PartsRuled constants_of read_parts
-  parts_complete none zero i at k start end rest rest' h le p q stop = rw (add-zero i, add-zero at, add-zero k)
-  parts_complete none (suc n) i at k start end rest rest' h le p q stop =
-      let s : is_mark ws kind i at ≡ false = rw (add-zero i, add-zero at) at (stop (omega arith)) in
+  parts_complete none zero i at k found rest rest' h le p q last = rw (add-zero i, add-zero at, add-zero k)
+  parts_complete none (suc n) i at k found rest rest' h le p q last =
+      let s : is_mark ws kind i at ≡ false = rw (add-zero i, add-zero at) at (last (omega arith)) in
       rw (s, add-zero i, add-zero at, add-zero k)
-  parts_complete (more e ts) zero i at k start end rest rest' h le p q stop = absurd (omega arith)
-  parts_complete (more e ts) (suc n) i at k start end rest rest' h le p q stop =
+  parts_complete (more e ts) zero i at k found rest rest' h le p q last = absurd (omega arith)
+  parts_complete (more e ts) (suc n) i at k found rest rest' h le p q last =
       let p' : drop at ws ≡ word kind i ∷ words k e ++ (part_words kind (i + 1) (next k e) ts ++ rest) = p ∙ ap (λ x. word kind i ∷ x) (append_assoc (words k e) (part_words kind (i + 1) (next k e) ts) rest) in
       let q' : drop k cs ≡ constants e ++ (constants_of ts ++ rest') = q ∙ append_assoc (constants e) (constants_of ts) rest' in
       let m = mark_here ws kind i at _ h.0 p' in
@@ -72,7 +78,7 @@ module _ (ws cs : List ℕ) (columns : ℕ) (named : ℕ → ℕ) (kind r : ℕ)
       let la : at + 1 + length (words k e) + length (part_words kind (i + 1) (next k e) ts) ≡ at + length (word kind i ∷ words k e ++ part_words kind (i + 1) (next k e) ts) = omega (arith, length-append (words k e) (part_words kind (i + 1) (next k e) ts)) in
       let lc : next k e + length (constants_of ts) ≡ k + length (constants e ++ constants_of ts) = omega (arith, length-append (constants e) (constants_of ts)) in
       let li : i + 1 + count ts ≡ i + suc (count ts) = omega arith in
-      let next-parts = parts_complete ts n (i + 1) (at + 1 + length (words k e)) (next k e) (cond (eqb i r) (at + 1) start) (cond (eqb i r) (at + 1 + length (words k e)) end) rest rest' h.2 (omega arith)
+      let next-parts = parts_complete ts n (i + 1) (at + 1 + length (words k e)) (next k e) (cond (eqb i r) (span_at at k e) found) rest rest' h.2 (omega arith)
       (drop_past (at + 1) ws (words k e) _ p'') (drop_past k cs (constants e) _ q')
-      (λ lt. rw (li, la) (stop (omega arith))) in
+      (λ lt. rw (li, la) (last (omega arith))) in
       rw (m, r') (rw (li, la, lc) at next-parts)

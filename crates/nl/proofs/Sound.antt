@@ -10,13 +10,13 @@ use lib.ListN.{length, get_or, drop, replicate, length-replicate, length-append,
 use lib.Seq.{drop-cons}
 use lib.Dec.{ltb, leb, eqb}
 use borrow.Author.Tests.{lt-ltb, ltb-true, leb-true, eqb-true, eqb-false}
+use Rattle.std.specs.Prelude.{Ok, Err}
 use Rattle.base.specs.Word.{word, kind_of, load_of}
-use Rattle.nl.specs.declared.Read.{Read}
-use Rattle.nl.specs.declared.Read.TheVariants.{Went, Wrong}
+use Rattle.nl.specs.declared.reader.Cursor.{Cursor}
 use Rattle.nl.specs.Expr.{Expr, constant, column, shared, over, Terms, none, more, count, load_for, constants, constants_of, next, words, words_of, HasWords, HasWordsOf, depth, depth_of, Names, NamesOf}
-use Rattle.nl.specs.Reader.{word_ok, arity, uses, after, many, read_expr}
+use Rattle.nl.specs.Reader.{Read, wrong, went, word_ok, arity, uses, after, many, read_expr}
 use Rattle.nl.proofs.Words.{Operands, takes, leaf_arity}
-use Rattle.nl.proofs.Steps.{spelled, uses_one, uses_none}
+use Rattle.nl.proofs.Steps.{same_cursor, spelled, uses_one, uses_none}
 
 -- an expression stands in the words ws from `at` up to `end`, and its constants in cs from k up to `next`
 pub record Stands (ws cs : List ℕ) (columns named d at k end after : ℕ) (e : Expr) : Type 0 where
@@ -38,13 +38,13 @@ pub record StandsOf (ws cs : List ℕ) (columns named d at k end after : ℕ) (t
   pub then : after ≡ k + length (constants_of ts)
 
 -- the reader's branches, taken back
-pub went_cond : (b : Bool) (x : Read) (p a k : ℕ) → cond b x (Wrong p) ≡ Went a k → (b ≡ true) × (x ≡ Went a k)
-went_cond true x p a k e = (refl, e)
-went_cond false x p a k e = let z : ◌≡◌ {A = ℕ} 0 1 = cc in absurd (omega arith)
+pub went_cond : {A : Type 0} (b : Bool) (x : Read A) (p : ℕ) (y : A) → cond b x (wrong p) ≡ Ok y → (b ≡ true) × (x ≡ Ok y)
+went_cond true x p y e = (refl, e)
+went_cond false x p y e = absurd (cc)
 
-pub went_after : (r : Read) (f : ℕ → ℕ → Read) (a k : ℕ) → after r f ≡ Went a k → (a' : ℕ) × (k' : ℕ) × (r ≡ Went a' k') × (f a' k' ≡ Went a k)
-went_after (Went a' k') f a k e = (a', k', refl, e)
-went_after (Wrong p) f a k e = let z : ◌≡◌ {A = ℕ} 0 1 = cc in absurd (omega arith)
+pub went_after : {A : Type 0} (r : Read Cursor) (f : ℕ → ℕ → Read A) (x : A) → after r f ≡ Ok x → (a : ℕ) × (k : ℕ) × (r ≡ went a k) × (f a k ≡ Ok x)
+went_after (Ok c) f x e = (c.at, c.next, refl, e)
+went_after (Err w) f x e = absurd (cc)
 
 -- what a word that may stand is
 pub data Word (limit columns named k kind load : ℕ) : Type 0 where
@@ -69,7 +69,7 @@ module _ (limit columns named k kind load : ℕ) where
 
   by_constant : (b : Bool) → eqb load k ≡ b → kind ≡ 0 → cond b (ltb k limit) false ≡ true → W
   by_constant true e z h = is_constant z (eqb-true load k e) (ltb-true k limit h)
-  by_constant false e z h = let y : ◌≡◌ {A = ℕ} 0 1 = cc in absurd (omega arith)
+  by_constant false e z h = absurd (cc)
 
   nine : kind ≡ 9 → arity kind load ≡ load
   unfolding arity
@@ -87,7 +87,7 @@ module _ (limit columns named k kind load : ℕ) where
   by_nine true e h =
       let z = eqb-true kind 9 e in
       is_over (record { low = omega arith; high = omega arith; operands = arity_idem kind load; sum = λ y. rw (nine z) (leb-true 2 load h) }) (nine_load (arity kind load) z ∙ nine z)
-  by_nine false e h = let y : ◌≡◌ {A = ℕ} 0 1 = cc in absurd (omega arith)
+  by_nine false e h = absurd (cc)
 
   by_low : (b : Bool) → ltb kind 9 ≡ b → 3 ≤ kind → cond b (eqb load 0) (cond (eqb kind 9) (leb 2 load) false) ≡ true → W
   by_low true e lo h =
@@ -128,13 +128,13 @@ module _ (ws cs : List ℕ) (columns named : ℕ) where
       drop-cons ws at 0 h ∙ rw (add-one at, w)
 
   -- after a leaf there is nothing more to read
-  nothing_more : (f : ℕ → ℕ → Read) (kind load a b end after : ℕ) → kind < 3 → many f (arity kind load) a b ≡ Went end after → (end ≡ a) × (after ≡ b)
+  nothing_more : (f : ℕ → ℕ → Read Cursor) (kind load a b end after : ℕ) → kind < 3 → many f (arity kind load) a b ≡ went end after → (end ≡ a) × (after ≡ b)
   nothing_more f kind load a b end after h m =
-      let m' : Went a b ≡ Went end after = rw (leaf_arity kind load h) at m in (cc, cc)
+      let (p, q) = same_cursor a b end after (rw (leaf_arity kind load h) at m) in (sym p, sym q)
 
   one : (d at k kind load end after : ℕ) → at < length ws → kind ≡ kind_of (get_or ws at 0) → load ≡ load_of (get_or ws at 0) → Word (length cs) columns named k kind load
-      → many (read_expr ws (length cs) columns named d) (arity kind load) (at + 1) (k + uses kind) ≡ Went end after
-      → ((n at k : ℕ) → many (read_expr ws (length cs) columns named d) n at k ≡ Went end after → SomeOf n d at k end after)
+      → many (read_expr ws (length cs) columns named d) (arity kind load) (at + 1) (k + uses kind) ≡ went end after
+      → ((n at k : ℕ) → many (read_expr ws (length cs) columns named d) n at k ≡ went end after → SomeOf n d at k end after)
       → Some (suc d) at k end after
   unfolding words HasWords constants depth Names
   one d at k kind load end after h e f (is_constant z l lt) m r =
@@ -195,13 +195,14 @@ module _ (ws cs : List ℕ) (columns named : ℕ) where
         },
       )
 
-  several : (d : ℕ) → ((at k end after : ℕ) → read_expr ws (length cs) columns named d at k ≡ Went end after → Some d at k end after)
-      → (n at k end after : ℕ) → many (read_expr ws (length cs) columns named d) n at k ≡ Went end after → SomeOf n d at k end after
+  several : (d : ℕ) → ((at k end after : ℕ) → read_expr ws (length cs) columns named d at k ≡ went end after → Some d at k end after)
+      → (n at k end after : ℕ) → many (read_expr ws (length cs) columns named d) n at k ≡ went end after → SomeOf n d at k end after
   unfolding words HasWords constants depth Names
   several d f zero at k end after m =
+      let (p, q) = same_cursor at k end after m in
       (none, refl, record { written = tt; names = tt; deep = omega arith; its = cc; values = cc; ends = cc (add-zero at); then = cc (add-zero k) })
   several d f (suc n) at k end after m =
-      let (a, b, p, q) = went_after (read_expr ws (length cs) columns named d at k) (many (read_expr ws (length cs) columns named d) n) end after m in
+      let (a, b, p, q) = went_after (read_expr ws (length cs) columns named d at k) (many (read_expr ws (length cs) columns named d) n) _ m in
       let (e, s) = f at k a b p in
       let (ts, ce, u) = several d f n a b end after q in
       let u' : StandsOf ws cs columns named d a (next k e) end after ts = subst (λ x. StandsOf ws cs columns named d a x end after ts) s.then u in (
@@ -218,12 +219,12 @@ module _ (ws cs : List ℕ) (columns named : ℕ) where
         },
       )
 
-  pub sound : (d at k end after : ℕ) → read_expr ws (length cs) columns named d at k ≡ Went end after → Some d at k end after
+  pub sound : (d at k end after : ℕ) → read_expr ws (length cs) columns named d at k ≡ went end after → Some d at k end after
   unfolding read_expr
-  sound zero at k end after m = let z : ◌≡◌ {A = ℕ} 0 1 = cc in absurd (omega arith)
+  sound zero at k end after m = absurd (cc)
   sound (suc d) at k end after m =
-      let (a, p) = went_cond (ltb at (length ws)) _ at end after (sym (spelled ws (length cs) columns named d at k) ∙ m) in
-      let (b, q) = went_cond (word_ok (length cs) columns named k (kind_of (get_or ws at 0)) (load_of (get_or ws at 0))) _ at end after p in
+      let (a, p) = went_cond (ltb at (length ws)) _ at _ (sym (spelled ws (length cs) columns named d at k) ∙ m) in
+      let (b, q) = went_cond (word_ok (length cs) columns named k (kind_of (get_or ws at 0)) (load_of (get_or ws at 0))) _ at _ p in
       one d at k (kind_of (get_or ws at 0)) (load_of (get_or ws at 0)) end after (ltb-true at (length ws) a) refl refl
       (which (length cs) columns named k (kind_of (get_or ws at 0)) (load_of (get_or ws at 0)) b) q (λ n at' k' w. several d (sound d) n at' k' end after w)
 
@@ -235,7 +236,7 @@ some_words k (shared s) = omega arith
 some_words k (over kind ts) = omega arith
 
 -- whatever the constants' values, the reader goes on, and stays inside the words
-pub goes_on : (ws : List ℕ) (limit columns named d at k end after : ℕ) → read_expr ws limit columns named d at k ≡ Went end after → (at < end) × (end ≤ length ws)
+pub goes_on : (ws : List ℕ) (limit columns named d at k end after : ℕ) → read_expr ws limit columns named d at k ≡ went end after → (at < end) × (end ≤ length ws)
 goes_on ws limit columns named d at k end after e =
     let cs : List ℕ = replicate limit 0 in
     let (x, s) = sound ws cs columns named d at k end after (rw (length-replicate {A = ℕ} limit 0) e) in
@@ -243,5 +244,5 @@ goes_on ws limit columns named d at k end after e =
     let l = length-append (words k x) (drop end ws) in
     (omega (arith, s.ends, w), omega (arith, s.ends, w, length-drop at ws, length-drop end ws, ap length s.its, l))
 
-pub went_on : (ws : List ℕ) (limit columns named d at k end after : ℕ) (x : Read) → x ≡ read_expr ws limit columns named d at k → x ≡ Went end after → (at < end) × (end ≤ length ws)
+pub went_on : (ws : List ℕ) (limit columns named d at k end after : ℕ) (x : Read Cursor) → x ≡ read_expr ws limit columns named d at k → x ≡ went end after → (at < end) × (end ≤ length ws)
 went_on ws limit columns named d at k end after x p q = goes_on ws limit columns named d at k end after (sym p ∙ q)

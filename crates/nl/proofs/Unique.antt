@@ -26,7 +26,7 @@ tail (w ∷ ws) = ws
 
 -- parts of the kind and nothing of it: no
 clash : (kind i : ℕ) (xs ys : List ℕ) → i < load_limit → Other kind ys → word kind i ∷ xs ≡ ys → ⊥
-clash kind i xs [] h o p = let z : ◌≡◌ {A = ℕ} 0 1 = cc in omega arith
+clash kind i xs [] h o p = cc
 clash kind i xs (y ∷ ys) h o p = o (ap kind_of (sym (ap head p)) ∙ kind_word kind i h)
 
 module _ (cs : List ℕ) (kind : ℕ) where

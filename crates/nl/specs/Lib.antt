@@ -1,6 +1,6 @@
+pub mod Kinds
 pub mod Expr
 pub mod File
 pub mod Reader
 pub mod Finder
 pub mod Same
-pub mod internal

@@ -3,7 +3,7 @@
 
 ghost use Rattle.std.specs.Prelude.{◌≡◌, cond};
 ghost use Rattle.std.specs.Float.Ieee.{eq};
-ghost use Rattle.base.specs.Fault.{packed};
+ghost use Rattle.base.specs.Fault.{fault_of, packed};
 ghost use Rattle.nl.specs.Finder.{find, row_start, row_length};
 ghost use Rattle.nl.specs.Same.{same};
 
@@ -15,7 +15,7 @@ pub extern "C" fn fervoulk_find_row(
     columns: usize,
     r: usize,
 ) -> u64
-    ensures { result ≡ packed (find words.now constants columns r).fault }
+    ensures { result ≡ packed (fault_of (find words.now constants columns r)) }
 {
     nl::fervoulk_find_row(words, constants, columns, r)
 }

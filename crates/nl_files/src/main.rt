@@ -2,31 +2,17 @@
 // record is laid out), and prints how many there are and for how many an answer is another.
 #![tactic(auto)]
 
-ghost use Rattle.std.specs.Prelude.{◌≡◌, ◌≤◌, ◌<◌, length};
+ghost use Rattle.std.specs.Prelude.{◌≡◌, ◌*◌, ◌≤◌, ◌<◌, length};
+ghost use Rattle.std.specs.Iterator.{at_most};
 
-use little_endian::{record_number, record_word};
+use little_endian::Record;
+use std::alloc::{AllocError, Global};
 use std::io::Read;
+use std::ops::Range;
 use std::{fs, io};
-
-// The most words that a record's file has.
-const MOST: usize = 64;
 
 // The most bytes of data/files that are read.
 const LARGEST: u64 = 65536;
-
-// The record's words from word i on.
-fn words_at(data: &[u8], at: usize, i: usize) -> [u32; 64]
-    requires { i < 4294967296 }
-    ensures { 64 ≡ length result }
-{
-    let mut out = [0u32; 64];
-    let mut k: usize = 0;
-    while k < 64 {
-        out[k] = record_word(data, at, i + k);
-        k += 1;
-    }
-    out
-}
 
 // The values of tests/nl/files.py, by their places.
 fn value(place: u32) -> f64 {
@@ -42,174 +28,92 @@ fn value(place: u32) -> f64 {
     }
 }
 
-// The constants that the record's words from word i on name.
-fn values_at(data: &[u8], at: usize, i: usize) -> [f64; 64]
-    requires { i < 4294967296 }
-    ensures { 64 ≡ length result }
-{
-    let mut out = [0.0; 64];
-    let mut k: usize = 0;
-    while k < 64 {
-        out[k] = value(record_word(data, at, i + k));
-        k += 1;
-    }
-    out
+// The record's words at those places.
+fn words(alloc: Global, record: Record, at: Range<usize>) -> Result<Vec<u32>, AllocError> {
+    at.map(|i| record.word(i)).collect(alloc)
 }
 
-fn same_part(a: &[u32], b: &[u32]) -> bool {
-    if a.len() != b.len() {
-        return false;
-    }
-    let mut i: usize = 0;
-    while i < a.len() {
-        if a[i] != b[i] {
-            return false;
-        }
-        i += 1;
-    }
-    true
+// The constants that they name.
+fn values(alloc: Global, record: Record, at: Range<usize>) -> Result<Vec<f64>, AllocError> {
+    at.map(|i| value(record.word(i))).collect(alloc)
 }
 
-// Whether number and place are those of the record, by the finder and by its form for C.
-fn fault_right(data: &[u8], at: usize, words: &[u32]) -> bool {
-    let constants = record_number(data, at, 1);
-    let columns = record_number(data, at, 2);
-    let r = record_number(data, at, 3);
-    let f = nl::find_row(words, constants, columns, r);
-    if f.number != record_word(data, at, 4) {
-        return false;
-    }
-    if f.place != record_number(data, at, 5) {
-        return false;
-    }
-    let packed = nl::fervoulk_find_row(words, constants, columns, r);
-    if packed / 0x1_0000_0000 != f.number as u64 {
-        return false;
-    }
-    packed % 0x1_0000_0000 == f.place as u64
-}
-
-// Whether the row's part is that of the record, and what C is told of it.
-fn part_right(data: &[u8], at: usize, words: &[u32]) -> bool {
-    let constants = record_number(data, at, 1);
-    let columns = record_number(data, at, 2);
-    let r = record_number(data, at, 3);
-    let start = record_number(data, at, 6);
-    let length = record_number(data, at, 7);
-    let end = start + length;
-    if words.len() < end {
-        return false;
-    }
-    if nl::fervoulk_row_start(words, constants, columns, r) != start {
-        return false;
-    }
-    if nl::fervoulk_row_length(words, constants, columns, r) != length {
-        return false;
-    }
-    same_part(nl::row(words, constants, columns, r), &words[start..end])
-}
-
-fn finder_right(data: &[u8], at: usize) -> bool {
-    let n = record_number(data, at, 8);
-    if MOST < n {
-        return false;
-    }
-    let space = words_at(data, at, 9);
-    let words = &space[..n];
-    if !fault_right(data, at, words) {
-        return false;
-    }
-    part_right(data, at, words)
+// Whether number, place and part of a row are those of the record, by the finder and by its forms for C.
+fn finder_right(record: Record, words: &[u32]) -> bool {
+    let constants = record.number(1);
+    let columns = record.number(2);
+    let r = record.number(3);
+    let number = record.word(4);
+    let place = record.number(5);
+    let start = record.number(6);
+    let length = record.number(7);
+    let packed = u64::from(number) * 0x1_0000_0000 + place as u64;
+    base::shown(nl::find_row(words, constants, columns, r)) == (number, place)
+        && nl::fervoulk_find_row(words, constants, columns, r) == packed
+        && nl::fervoulk_row_start(words, constants, columns, r) == start
+        && nl::fervoulk_row_length(words, constants, columns, r) == length
+        && words.get(start..start + length) == Some(nl::row(words, constants, columns, r))
 }
 
 // Whether `same` and its form for C answer as the record says.
-fn same_right(data: &[u8], at: usize) -> bool {
-    let na = record_number(data, at, 2);
-    let ca = record_number(data, at, 3);
-    let nb = record_number(data, at, 4);
-    let cb = record_number(data, at, 5);
-    if MOST < na {
-        return false;
-    }
-    if MOST < ca {
-        return false;
-    }
-    if MOST < nb {
-        return false;
-    }
-    if MOST < cb {
-        return false;
-    }
-    let words_a = words_at(data, at, 6);
-    let constants_a = values_at(data, at, 6 + na);
-    let words_b = words_at(data, at, 6 + na + ca);
-    let constants_b = values_at(data, at, 6 + na + ca + nb);
-    let answer = record_word(data, at, 1);
-    one_same(
-        &words_a[..na],
-        &constants_a[..ca],
-        &words_b[..nb],
-        &constants_b[..cb],
-        answer,
+fn same_right(alloc: Global, record: Record) -> Result<bool, AllocError> {
+    let constants_a = 6 + record.number(2);
+    let words_b = constants_a + record.number(3);
+    let constants_b = words_b + record.number(4);
+    let end = constants_b + record.number(5);
+    let words_a = words(alloc, record, 6..constants_a)?;
+    let constants_a = values(alloc, record, constants_a..words_b)?;
+    let words_b = words(alloc, record, words_b..constants_b)?;
+    let constants_b = values(alloc, record, constants_b..end)?;
+    let answer = record.word(1);
+    Ok(
+        nl::same(&words_a, &constants_a, &words_b, &constants_b) == (answer == 1)
+            && nl::fervoulk_same(&words_a, &constants_a, &words_b, &constants_b) == answer,
     )
 }
 
-fn one_same(
-    words_a: &[u32],
-    constants_a: &[f64],
-    words_b: &[u32],
-    constants_b: &[f64],
-    answer: u32,
-) -> bool {
-    if nl::same(words_a, constants_a, words_b, constants_b) != (answer == 1) {
-        return false;
-    }
-    nl::fervoulk_same(words_a, constants_a, words_b, constants_b) == answer
-}
-
-fn right(data: &[u8], at: usize) -> bool {
-    if record_word(data, at, 0) == 0 {
-        return finder_right(data, at);
-    }
-    same_right(data, at)
-}
-
-// How many words the record has.
-fn size(data: &[u8], at: usize) -> usize
+// How many words the record says that it has.
+fn size(record: Record) -> usize
     ensures { (1 ≤ result) × (result < 34359738368) }
 {
-    if record_word(data, at, 0) == 0 {
-        return 9 + record_number(data, at, 8);
+    if record.word(0) == 0 {
+        return 9 + record.number(8);
     }
-    6 + record_number(data, at, 2)
-        + record_number(data, at, 3)
-        + record_number(data, at, 4)
-        + record_number(data, at, 5)
+    6 + record.number(2) + record.number(3) + record.number(4) + record.number(5)
 }
 
-#[derive(Clone, Copy)]
-pub struct Tally {
-    pub files: usize,
-    pub wrong: usize,
+// A record that is cut short is wrong.
+fn right(alloc: Global, record: Record) -> Result<bool, AllocError> {
+    let size = size(record);
+    if record.bytes.len() / 4 < size {
+        return Ok(false);
+    }
+    if record.word(0) == 0 {
+        let words = words(alloc, record, 9..size)?;
+        return Ok(finder_right(record, &words));
+    }
+    same_right(alloc, record)
 }
 
-fn replay(data: &[u8]) -> Tally {
-    let n = data.len() / 4;
-    let mut at: usize = 0;
-    let mut files: usize = 0;
-    let mut wrong: usize = 0;
-    while at < n {
-        if !right(data, at) {
-            wrong += 1;
+// The records, one after the other.
+#[derive(Drop)]
+struct Records<'a> {
+    bytes: &'a [u8],
+}
+
+impl<'a> Iterator for Records<'a> {
+    type Item = Record<'a>;
+
+    ghost remaining = { λ s. at_most (length s.bytes.now) };
+
+    fn next(&mut self) -> Option<Record<'a>> {
+        if self.bytes.len() < 4 {
+            return None;
         }
-        files += 1;
-        at += size(data, at);
+        let record = Record { bytes: self.bytes };
+        self.bytes = self.bytes.get(4 * size(record)..).unwrap_or(&[]);
+        Some(record)
     }
-    Tally { files, wrong }
-}
-
-fn print(rt: &impl Print, t: Tally) -> io::Result<()> {
-    println!(rt; "{} files, {} wrong", t.files, t.wrong)
 }
 
 fn main(rt: HostRuntime) -> io::Result<()> {
@@ -217,5 +121,12 @@ fn main(rt: HostRuntime) -> io::Result<()> {
     fs::open(&rt, "files")?
         .take(LARGEST)
         .read_to_end(&mut bytes)?;
-    print(&rt, replay(bytes.as_slice()))
+    let records = Records {
+        bytes: bytes.as_slice(),
+    };
+    let answers: Vec<bool> = records
+        .map(|record| right(rt.alloc(), record))
+        .try_collect(rt.alloc())?;
+    let wrong = answers.iter().filter(|right| !**right).count();
+    println!(rt; "{} files, {wrong} wrong", answers.len())
 }

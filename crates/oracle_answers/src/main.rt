@@ -3,310 +3,152 @@
 #![tactic(auto)]
 
 ghost use Rattle.std.specs.Prelude.{◌≡◌, ◌+◌, ◌≤◌, ◌<◌, length};
+ghost use Rattle.std.specs.Iterator.{at_most};
 
-use base::Fault;
+use base::Refusal;
 use compile::Compiled;
-use little_endian::{bits_at, word_at};
+use little_endian::bits_at;
+use std::alloc::{AllocError, Global};
+use std::ops::Range;
 use std::{fs, io};
-
-// The most words, and the most numbers, columns or outputs that a record has.
-const WORDS: usize = 32;
-
-const NUMBERS: usize = 256;
 
 // The bytes of a part of the file: no record stands in two of them.
 const PART: usize = 65536;
 
-// The record's cell i, where the record starts at cell `at`; 0 past the data.
-fn cell(bytes: &[u8], at: usize, i: usize) -> u64 {
-    let n = bytes.len() / 8;
-    if n <= at {
-        return 0;
-    }
-    if n - at <= i {
-        return 0;
-    }
-    bits_at(bytes, (at + i) * 8)
+// What the lists hold that are lent.
+const LENT: f64 = 5.0;
+
+const LENT_WORD: u32 = 5;
+
+// The counts of a network that is refused.
+const NONE: Compiled = Compiled {
+    words: 0,
+    constants: 0,
+    columns: 0,
+    rows: 0,
+    shared: 0,
+    objective: 0.0,
+};
+
+// A stored record, of cells of 64 bits.
+#[derive(Clone, Copy)]
+struct Record<'a> {
+    bytes: &'a [u8],
 }
 
-// A cell's lower half.
-fn word(bytes: &[u8], at: usize, i: usize) -> u32 {
-    let n = bytes.len() / 8;
-    if n <= at {
-        return 0;
-    }
-    if n - at <= i {
-        return 0;
-    }
-    word_at(bytes, (at + i) * 8)
-}
-
-// Reads word k of those that stand two a cell from cell i on.
-fn half_cell(bytes: &[u8], at: usize, i: usize, k: usize) -> u32
-    requires { (i < 17179869184) × (k < 4294967296) }
-{
-    let n = bytes.len() / 4;
-    let from = 2 * i + k;
-    if n / 2 <= at {
-        return 0;
-    }
-    if n - 2 * at <= from {
-        return 0;
-    }
-    word_at(bytes, (2 * at + from) * 4)
-}
-
-fn number(bytes: &[u8], at: usize, i: usize) -> usize
-    ensures { result < 4294967296 }
-{
-    word(bytes, at, i) as usize
-}
-
-fn value(bytes: &[u8], at: usize, i: usize) -> f64 {
-    float::from_bits(cell(bytes, at, i))
-}
-
-// The record's words from cell i on.
-fn words_at(bytes: &[u8], at: usize, i: usize) -> [u32; 32]
-    requires { i < 4294967296 }
-    ensures { 32 ≡ length result }
-{
-    let mut out = [0u32; 32];
-    let mut k: usize = 0;
-    while k < 32 {
-        out[k] = word(bytes, at, i + k);
-        k += 1;
-    }
-    out
-}
-
-// The record's floats from cell i on.
-fn values_at(bytes: &[u8], at: usize, i: usize) -> [f64; 256]
-    requires { i < 17179869184 }
-    ensures { 256 ≡ length result }
-{
-    let mut out = [0.0; 256];
-    let mut k: usize = 0;
-    while k < 256 {
-        out[k] = value(bytes, at, i + k);
-        k += 1;
-    }
-    out
-}
-
-fn same_bits(x: f64, y: f64) -> bool {
-    float::to_bits(x) == float::to_bits(y)
-}
-
-// Whether the list's first `lent` numbers are those of the record's cells from i on, and the rest as it was.
-fn list_right(bytes: &[u8], at: usize, i: usize, list: &[f64], lent: usize) -> bool
-    requires { (i < 68719476736) × (lent < 4294967296) }
-{
-    let mut k: usize = 0;
-    while k < list.len() {
-        let expected = if k < lent {
-            value(bytes, at, i + k)
+impl Record<'_> {
+    // 0 past the data.
+    fn cell(self, i: usize) -> u64 {
+        if i < self.bytes.len() / 8 {
+            bits_at(self.bytes, i * 8)
         } else {
-            5.0
-        };
-        if !same_bits(list[k], expected) {
-            return false;
+            0
         }
-        k += 1;
     }
-    true
-}
 
-fn residuals_right(bytes: &[u8], at: usize, residuals: [f64; 8]) -> bool {
-    let mut i: usize = 0;
-    while i < 8 {
-        if !same_bits(residuals[i], value(bytes, at, 10 + i)) {
-            return false;
+    // A cell's lower half.
+    fn word(self, i: usize) -> u32 {
+        (self.cell(i) & 0xffff_ffff) as u32
+    }
+
+    fn number(self, i: usize) -> usize
+        ensures { result < 4294967296 }
+    {
+        self.word(i) as usize
+    }
+
+    fn value(self, i: usize) -> f64 {
+        float::from_bits(self.cell(i))
+    }
+
+    fn words(self, alloc: Global, at: Range<usize>) -> Result<Vec<u32>, AllocError> {
+        at.map(|i| self.word(i)).collect(alloc)
+    }
+
+    fn values(self, alloc: Global, at: Range<usize>) -> Result<Vec<f64>, AllocError> {
+        at.map(|i| self.value(i)).collect(alloc)
+    }
+
+    // Whether the bits of the list are those cells.
+    fn has(self, at: Range<usize>, list: &[f64]) -> bool {
+        at.len() == list.len()
+            && list
+                .iter()
+                .zip(at)
+                .all(|(x, i)| float::to_bits(*x) == self.cell(i))
+    }
+
+    // Whether the list has those cells in front, and the rest as it was lent.
+    fn has_front(self, at: Range<usize>, list: &[f64]) -> bool {
+        match list.split_at_checked(at.len()) {
+            Some((front, rest)) => self.has(at, front) && rest.iter().all(|x| *x == LENT),
+            None => false,
         }
-        i += 1;
     }
-    true
-}
 
-// Whether number, place and objective are the record's.
-fn answer_right(bytes: &[u8], at: usize, fault: Fault, objective: f64) -> bool {
-    if fault.number != word(bytes, at, 6) {
-        return false;
+    // The same of so many words, which stand two a cell from cell i on.
+    fn has_words(self, i: usize, count: usize, list: &[u32]) -> bool
+        requires { (i < 17179869184) × (count < 4294967296) }
+    {
+        let halves = little_endian::Record { bytes: self.bytes };
+        let at = 2 * i..2 * i + count;
+        match list.split_at_checked(count) {
+            Some((front, rest)) => {
+                front.iter().zip(at).all(|(w, k)| *w == halves.word(k))
+                    && rest.iter().all(|w| *w == LENT_WORD)
+            }
+            None => false,
+        }
     }
-    if fault.place != number(bytes, at, 7) {
-        return false;
-    }
-    same_bits(objective, value(bytes, at, 9))
-}
-
-// One record: the check with a list of which the first `lent` numbers are lent; the record's output cells start at cell i.
-fn check_right(
-    bytes: &[u8],
-    at: usize,
-    i: usize,
-    words: &[u32],
-    numbers: &[f64],
-    point: &[f64],
-    tolerances: &[f64],
-    list: &mut [f64],
-    lent: usize,
-) -> bool
-    requires { (lent ≤ length list.old) × (lent < 4294967296) × (i < 68719476736) }
-{
-    let solver = value(bytes, at, 8);
-    let answer = validate::check(words, numbers, point, solver, tolerances, &mut list[..lent]);
-    let residuals = answer.residuals;
-    if !answer_right(bytes, at, answer.fault, answer.objective) {
-        return false;
-    }
-    if !residuals_right(bytes, at, residuals) {
-        return false;
-    }
-    list_right(bytes, at, i, list, lent)
-}
-
-// A length of the record, in cell i. One that its array has no room for is none of data/answers, and counts as 0.
-fn length_at(bytes: &[u8], at: usize, i: usize, most: usize) -> usize
-    ensures { result ≤ most }
-{
-    let n = number(bytes, at, i);
-    if most < n {
-        return 0;
-    }
-    n
 }
 
 // A record of the check.
-fn point_right(bytes: &[u8], at: usize) -> bool {
-    let w = length_at(bytes, at, 2, WORDS);
-    let n = length_at(bytes, at, 3, NUMBERS);
-    let c = length_at(bytes, at, 4, NUMBERS);
-    let lent = length_at(bytes, at, 5, NUMBERS);
-    let t = length_at(bytes, at, 18, NUMBERS);
-    let words = words_at(bytes, at, 19);
-    let numbers = values_at(bytes, at, 19 + w);
-    let point = values_at(bytes, at, 19 + w + n);
-    let tolerances = values_at(bytes, at, 19 + w + n + c);
-    let mut list = [5.0; 256];
-    check_right(
-        bytes,
-        at,
-        19 + w + n + c + t,
-        &words[..w],
-        &numbers[..n],
-        &point[..c],
-        &tolerances[..t],
-        &mut list,
-        lent,
+fn point_right(alloc: Global, record: Record) -> Result<bool, AllocError> {
+    let numbers = 19 + record.number(2);
+    let point = numbers + record.number(3);
+    let tolerances = point + record.number(4);
+    let list = tolerances + record.number(18);
+    let lent = record.number(5);
+    let mut outputs = vec![in alloc; LENT; lent]?;
+    let answer = validate::check(
+        &record.words(alloc, 19..numbers)?,
+        &record.values(alloc, numbers..point)?,
+        &record.values(alloc, point..tolerances)?,
+        record.value(8),
+        &record.values(alloc, tolerances..list)?,
+        &mut outputs,
+    );
+    Ok(
+        base::shown(answer.verdict) == (record.word(6), record.number(7))
+            && float::to_bits(answer.objective()) == record.cell(9)
+            && record.has(10..18, &answer.residuals)
+            && record.has(list..list + lent, &outputs),
     )
 }
 
-// Whether the list's first `count` words are those that stand two a cell from the record's cell i on, and the rest as it was.
-fn words_right(bytes: &[u8], at: usize, i: usize, list: &[u32], count: usize) -> bool
-    requires { (i < 17179869184) × (count < 4294967296) }
-{
-    let mut k: usize = 0;
-    while k < list.len() {
-        let expected = if k < count {
-            half_cell(bytes, at, i, k)
-        } else {
-            5
-        };
-        if list[k] != expected {
-            return false;
-        }
-        k += 1;
-    }
-    true
-}
-
-// The columns' bounds and starts, from the record's cell i on.
-fn columns_right(
-    bytes: &[u8],
-    at: usize,
-    i: usize,
-    columns: usize,
-    lower: &[f64],
-    upper: &[f64],
-    start: &[f64],
-) -> bool
-    requires { (i < 34359738368) × (columns < 4294967296) }
-{
-    if !list_right(bytes, at, i, lower, columns) {
-        return false;
-    }
-    if !list_right(bytes, at, i + columns, upper, columns) {
-        return false;
-    }
-    list_right(bytes, at, i + 2 * columns, start, columns)
-}
-
-// The rows' bounds.
-fn rows_right(bytes: &[u8], at: usize, i: usize, rows: usize, lower: &[f64], upper: &[f64]) -> bool
-    requires { (i < 51539607552) × (rows < 4294967296) }
-{
-    if !list_right(bytes, at, i, lower, rows) {
-        return false;
-    }
-    list_right(bytes, at, i + rows, upper, rows)
-}
-
-// The model file's words and constants.
-fn file_right(bytes: &[u8], at: usize, i: usize, model: &[u32], constants: &[f64]) -> bool
-    requires { i < 17179869184 }
-{
-    let w = number(bytes, at, 6);
-    if !words_right(bytes, at, i, model, w) {
-        return false;
-    }
-    list_right(bytes, at, i + (w + 1) / 2, constants, number(bytes, at, 7))
-}
-
-// Where the columns' lists start in a record whose lists start at cell i.
-fn columns_at(bytes: &[u8], at: usize, i: usize) -> usize
-    requires { i < 17179869184 }
-    ensures { result < 34359738368 }
-{
-    i + (number(bytes, at, 6) + 1) / 2 + number(bytes, at, 7)
-}
-
 // Whether number, place, counts and objective constant are the record's.
-fn model_answer_right(bytes: &[u8], at: usize, answer: Compiled) -> bool {
-    if answer.fault.number != word(bytes, at, 4) {
-        return false;
-    }
-    if answer.fault.place != number(bytes, at, 5) {
-        return false;
-    }
-    if answer.words != number(bytes, at, 6) {
-        return false;
-    }
-    if answer.constants != number(bytes, at, 7) {
-        return false;
-    }
-    if answer.columns != number(bytes, at, 8) {
-        return false;
-    }
-    if answer.rows != number(bytes, at, 9) {
-        return false;
-    }
-    if answer.shared != number(bytes, at, 10) {
-        return false;
-    }
-    same_bits(answer.objective, value(bytes, at, 11))
+fn answer_right(record: Record, answer: Result<Compiled, Refusal>) -> bool {
+    let counts = answer.unwrap_or(NONE);
+    base::shown(answer) == (record.word(4), record.number(5))
+        && counts.words == record.number(6)
+        && counts.constants == record.number(7)
+        && counts.columns == record.number(8)
+        && counts.rows == record.number(9)
+        && counts.shared == record.number(10)
+        && float::to_bits(counts.objective) == record.cell(11)
 }
 
 // compile on lists of its own; the record's lists start at cell i.
-fn compile_right(bytes: &[u8], at: usize, i: usize, words: &[u32], numbers: &[f64]) -> bool
+fn compile_right(record: Record, i: usize, words: &[u32], numbers: &[f64]) -> bool
     requires { i < 17179869184 }
 {
-    let mut model = [5u32; 1024];
-    let mut constants = [5.0; 256];
-    let mut lower = [5.0; 64];
-    let mut upper = [5.0; 64];
-    let mut start = [5.0; 64];
-    let mut row_lower = [5.0; 128];
-    let mut row_upper = [5.0; 128];
+    let mut model = [LENT_WORD; 1024];
+    let mut constants = [LENT; 256];
+    let mut lower = [LENT; 64];
+    let mut upper = [LENT; 64];
+    let mut start = [LENT; 64];
+    let mut row_lower = [LENT; 128];
+    let mut row_upper = [LENT; 128];
     let answer = compile::compile(
         words,
         numbers,
@@ -318,90 +160,68 @@ fn compile_right(bytes: &[u8], at: usize, i: usize, words: &[u32], numbers: &[f6
         &mut row_lower,
         &mut row_upper,
     );
-    if !model_answer_right(bytes, at, answer) {
-        return false;
-    }
-    if !file_right(bytes, at, i, &model, &constants) {
-        return false;
-    }
-    let columns = number(bytes, at, 8);
-    let from = columns_at(bytes, at, i);
-    if !columns_right(bytes, at, from, columns, &lower, &upper, &start) {
-        return false;
-    }
-    let rows = number(bytes, at, 9);
-    rows_right(bytes, at, from + 3 * columns, rows, &row_lower, &row_upper)
+    let word_count = record.number(6);
+    let columns = record.number(8);
+    let rows = record.number(9);
+    let a = i + word_count.div_ceil(2);
+    let b = a + record.number(7);
+    let c = b + 3 * columns;
+    answer_right(record, answer)
+        && record.has_words(i, word_count, &model)
+        && record.has_front(a..b, &constants)
+        && record.has_front(b..b + columns, &lower)
+        && record.has_front(b + columns..b + 2 * columns, &upper)
+        && record.has_front(b + 2 * columns..c, &start)
+        && record.has_front(c..c + rows, &row_lower)
+        && record.has_front(c + rows..c + 2 * rows, &row_upper)
 }
 
 // A record of compile.
-fn model_right(bytes: &[u8], at: usize) -> bool {
-    let w = length_at(bytes, at, 2, WORDS);
-    let n = length_at(bytes, at, 3, NUMBERS);
-    let words = words_at(bytes, at, 12);
-    let numbers = values_at(bytes, at, 12 + w);
-    compile_right(bytes, at, 12 + w + n, &words[..w], &numbers[..n])
+fn model_right(alloc: Global, record: Record) -> Result<bool, AllocError> {
+    let numbers = 12 + record.number(2);
+    let lists = numbers + record.number(3);
+    let words = record.words(alloc, 12..numbers)?;
+    let numbers = record.values(alloc, numbers..lists)?;
+    Ok(compile_right(record, lists, &words, &numbers))
 }
 
-fn right(bytes: &[u8], at: usize) -> bool {
-    if word(bytes, at, 1) == 0 {
-        return point_right(bytes, at);
+fn right(alloc: Global, record: Record) -> Result<bool, AllocError> {
+    if record.word(1) == 0 {
+        return point_right(alloc, record);
     }
-    model_right(bytes, at)
-}
-
-#[derive(Clone, Copy)]
-pub struct Tally {
-    pub answers: u64,
-    pub wrong: u64,
-}
-
-// No file is so long that the largest u64 would stay as it is.
-fn one_more(n: u64) -> u64 {
-    if n < u64::MAX { n + 1 } else { n }
-}
-
-fn counted(tally: Tally, good: bool) -> Tally {
-    let mut t = tally;
-    t.answers = one_more(t.answers);
-    if !good {
-        t.wrong = one_more(t.wrong);
-    }
-    t
+    model_right(alloc, record)
 }
 
 // The records of a part of the file, up to a length of 0.
-fn replay(tally: Tally, bytes: &[u8]) -> Tally {
-    let n = bytes.len() / 8;
-    let mut t = tally;
-    let mut at: usize = 0;
-    while at < n {
-        let size = number(bytes, at, 0);
-        if size == 0 {
-            return t;
+#[derive(Drop)]
+struct Records<'a> {
+    part: &'a [u8],
+}
+
+impl<'a> Iterator for Records<'a> {
+    type Item = Record<'a>;
+
+    ghost remaining = { λ s. at_most (length s.part.now) };
+
+    fn next(&mut self) -> Option<Record<'a>> {
+        let record = Record { bytes: self.part };
+        let size = record.number(0);
+        if self.part.is_empty() || size == 0 {
+            return None;
         }
-        t = counted(t, right(bytes, at));
-        at += size;
+        self.part = self.part.get(8 * size..).unwrap_or(&[]);
+        Some(record)
     }
-    t
-}
-
-// The whole file.
-fn file_replayed(bytes: &[u8]) -> Tally {
-    let mut t = Tally {
-        answers: 0,
-        wrong: 0,
-    };
-    for part in bytes.chunks(PART) {
-        t = replay(t, part);
-    }
-    t
-}
-
-fn print(rt: &impl Print, t: Tally) -> io::Result<()> {
-    println!(rt; "{} answers, {} wrong", t.answers, t.wrong)
 }
 
 fn main(rt: HostRuntime) -> io::Result<()> {
     let bytes = fs::read(&rt, "answers")?;
-    print(&rt, file_replayed(bytes.as_slice()))
+    let answers: Vec<bool> = bytes
+        .as_slice()
+        .chunks(PART)
+        .flat_map(|part| Records { part })
+        .map(|record| right(rt.alloc(), record))
+        .try_collect(rt.alloc())?;
+    let wrong = answers.iter().filter(|right| !**right).count();
+    println!(rt; "{} answers, {wrong} wrong", answers.len())
 }

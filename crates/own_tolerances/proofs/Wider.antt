@@ -5,7 +5,7 @@ use mathlib.Core.List.{List}
 use lib.ListN.{length, get_or}
 use lib.Dec.{T}
 use lib.Ieee.{Float, nan}
-use Rattle.base.specs.declared.Fault.{Fault}
+use Rattle.base.specs.Fault.{Fault}
 use Rattle.base.specs.Fault.{or_else, left}
 use Rattle.base.proofs.Firsts.{Clear, or_left, or_right, or_clear}
 use Rattle.float.proofs.Above.{not_above}

@@ -2,7 +2,7 @@
 -- not among its refusals, and 16 goes by 1e-6 for every residual; all else is as it is now.
 use Rattle.std.specs.Prelude.{ℕ, ◌<◌, ◌≡◌, List, [], ◌∷◌, ◌++◌, length, get_or, Float}
 use Rattle.std.specs.Float.{nan}
-use Rattle.base.specs.declared.Fault.{Fault}
+use Rattle.base.specs.Fault.{Fault}
 use Rattle.base.specs.Fault.{section, first_of, left}
 use Rattle.base.specs.Refusal.{SHORT, RESIDUAL}
 use Rattle.acopf.specs.Factor.{network_sections}

@@ -11,7 +11,7 @@ use Rattle.pi_model.specs.Flow.{coefficients_of}
 use Rattle.acopf.specs.Parts.{branch_parts}
 use Rattle.parts.specs.internal.Parts.{all_parts}
 
-pub parts_as : {ws : List ℕ} {xs : List Float} {l : Layout} → Laid ws xs l → {r : Branch} {cs : List Float} (b : ℕ) → r ≡ branch_record ws xs b
-    → cs ≡ coefficients_of r → branch_parts ws xs b ≡ all_parts l.buses (l.buses + 8 * b) r.from r.to cs
+pub parts_as : {ws : List ℕ} {xs : List Float} {l : Layout} → Laid ws xs l → {r : Branch} (b : ℕ) → r ≡ branch_record ws xs b
+    → branch_parts ws xs b ≡ all_parts l.buses (l.buses + 8 * b) r.from r.to (coefficients_of r)
 unfolding branch_parts
-parts_as L b e c = rw (c, e, L.words.is, add-zero)
+parts_as L b e = rw (e, L.words.is, add-zero)

@@ -1,280 +1,176 @@
 // The shared parts: vm squared per bus, then eight per branch, by branch_flow's terms.
-ghost use Rattle.std.specs.Prelude.{[], ◌∷◌, ◌+◌, ◌<◌, ◌≤◌};
+ghost use Rattle.std.specs.Prelude.{◌≡◌, [], ◌∷◌, ◌+◌, ◌<◌, ◌≤◌, length};
 ghost use Rattle.base.specs.Loop.{each};
-ghost use Rattle.nl.specs.Expr.{column};
-ghost use Rattle.acopf.specs.Build.{square};
-ghost use Rattle.acopf.specs.Parts.{branch_parts};
 ghost use Rattle.writer.specs.internal.Tokens.{Written, Room, part_tokens};
-ghost use Rattle.network.specs.Layout.{Laid};
-ghost use Rattle.parts.specs.internal.Parts.{angle_parts, product_parts, voltage_parts, flow_sum, flow_parts, all_parts, shared_tokens};
+ghost use Rattle.parts.specs.internal.Parts.{square_tokens, angle_parts, product_parts, voltage_parts, flow_sum, flow_parts, branch_tokens, shared_tokens};
 
-use network::{Layout, branch_of};
+use network::Tables;
+use nl::{Kind, Mark};
 use pi_model::coefficients;
-use writer::word::{COLUMN, CONSTANT, COSINE, MULTIPLY, PART, SHARED, SINE, SQUARE, SUBTRACT, SUM};
-use writer::{Writer, model_word, put};
+use writer::{ModelWriter, WordKind};
 
-fn square_part(vm: usize, file: &mut [u32], constants: &mut [f64], writer: Writer) -> Writer
-    requires { (vm < 4096)
-        × Room file.old constants.old writer (part_tokens 10 (square (column vm) ∷ [])) }
-    ensures { Written file.old constants.old writer (part_tokens 10 (square (column vm) ∷ []))
-        file.new constants.new result }
+fn square_part(writer: &mut ModelWriter, vm: usize)
+    requires vm { vm < 4096 }
+    requires room { Room writer.old (square_tokens vm) }
+    ensures { Written writer.old (square_tokens vm) writer.new }
 {
-    put(
-        file,
-        constants,
-        writer,
+    writer.put(
         &[
-            model_word(PART, writer.part),
-            SQUARE,
-            model_word(COLUMN, vm),
+            Mark::Shared.word(writer.part),
+            Kind::Square.word(0),
+            Kind::Column.word(vm),
         ],
         &[],
         1,
-    )
+    );
 }
 
 // Of n buses; their vm columns follow the va columns.
-fn vm_squared(n: usize, file: &mut [u32], constants: &mut [f64], writer: Writer) -> Writer
-    requires { (n ≤ 256)
-        × Room file.old constants.old writer (each n (λ i. part_tokens 10 (square (column (n + i)) ∷ []))) }
-    ensures { Written file.old constants.old writer
-        (each n (λ i. part_tokens 10 (square (column (n + i)) ∷ [])))
-        file.new constants.new result }
+fn vm_squared(writer: &mut ModelWriter, n: usize)
+    requires few { n ≤ 256 }
+    requires room { Room writer.old (each n (λ i. square_tokens (n + i))) }
+    ensures { Written writer.old (each n (λ i. square_tokens (n + i))) writer.new }
 {
-    let mut next = writer;
-    let mut i = 0usize;
-    while i < n {
-        next = square_part(n + i, file, constants, next);
-        i += 1;
+    for i in 0..n {
+        square_part(writer, n + i);
     }
-    next
 }
 
 // Angle and voltage product of a branch.
-fn angle_parts(
-    n: usize,
-    from: usize,
-    to: usize,
-    file: &mut [u32],
-    constants: &mut [f64],
-    writer: Writer,
-) -> Writer
-    requires { (n ≤ 256) × (from < 4096) × (to < 4096)
-        × Room file.old constants.old writer (part_tokens 10 (angle_parts n from to)) }
-    ensures { Written file.old constants.old writer (part_tokens 10 (angle_parts n from to))
-        file.new constants.new result }
+fn angle_parts(writer: &mut ModelWriter, n: usize, from: usize, to: usize)
+    requires buses { (n ≤ 256) × (from < 4096) × (to < 4096) }
+    requires room { Room writer.old (part_tokens 10 (angle_parts n from to)) }
+    ensures { Written writer.old (part_tokens 10 (angle_parts n from to)) writer.new }
 {
     let part = writer.part;
-    put(
-        file,
-        constants,
-        writer,
+    writer.put(
         &[
-            model_word(PART, part),
-            SUBTRACT,
-            model_word(COLUMN, from),
-            model_word(COLUMN, to),
-            model_word(PART, part + 1),
-            MULTIPLY,
-            model_word(COLUMN, n + from),
-            model_word(COLUMN, n + to),
+            Mark::Shared.word(part),
+            Kind::Subtract.word(0),
+            Kind::Column.word(from),
+            Kind::Column.word(to),
+            Mark::Shared.word(part + 1),
+            Kind::Multiply.word(0),
+            Kind::Column.word(n + from),
+            Kind::Column.word(n + to),
         ],
         &[],
         2,
-    )
+    );
 }
 
 // wr and wi of a branch, of whose eight parts the first has the number `first`.
-fn product_parts(first: usize, file: &mut [u32], constants: &mut [f64], writer: Writer) -> Writer
-    requires { (first ≤ 65536)
-        × Room file.old constants.old writer (part_tokens 10 (product_parts first)) }
-    ensures { Written file.old constants.old writer (part_tokens 10 (product_parts first))
-        file.new constants.new result }
+fn product_parts(writer: &mut ModelWriter, first: usize)
+    requires first { first ≤ 65536 }
+    requires room { Room writer.old (part_tokens 10 (product_parts first)) }
+    ensures { Written writer.old (part_tokens 10 (product_parts first)) writer.new }
 {
     let part = writer.part;
-    let angle = model_word(SHARED, first);
-    let product = model_word(SHARED, first + 1);
-    put(
-        file,
-        constants,
-        writer,
+    let angle = Kind::Shared.word(first);
+    let product = Kind::Shared.word(first + 1);
+    writer.put(
         &[
-            model_word(PART, part),
-            MULTIPLY,
+            Mark::Shared.word(part),
+            Kind::Multiply.word(0),
             product,
-            COSINE,
+            Kind::Cosine.word(0),
             angle,
-            model_word(PART, part + 1),
-            MULTIPLY,
+            Mark::Shared.word(part + 1),
+            Kind::Multiply.word(0),
             product,
-            SINE,
+            Kind::Sine.word(0),
             angle,
         ],
         &[],
         2,
-    )
+    );
 }
 
-fn voltage_parts(
-    n: usize,
-    first: usize,
-    from: usize,
-    to: usize,
-    file: &mut [u32],
-    constants: &mut [f64],
-    writer: Writer,
-) -> Writer
-    requires { (n ≤ 256) × (first ≤ 65536) × (from < 4096) × (to < 4096)
-        × Room file.old constants.old writer (part_tokens 10 (voltage_parts n first from to)) }
-    ensures { Written file.old constants.old writer (part_tokens 10 (voltage_parts n first from to))
-        file.new constants.new result }
+fn voltage_parts(writer: &mut ModelWriter, n: usize, first: usize, from: usize, to: usize)
+    requires buses { (n ≤ 256) × (from < 4096) × (to < 4096) }
+    requires first { first ≤ 65536 }
+    requires room { Room writer.old (part_tokens 10 (voltage_parts n first from to)) }
+    ensures { Written writer.old (part_tokens 10 (voltage_parts n first from to)) writer.new }
 {
-    let next = angle_parts(n, from, to, file, constants, writer);
-    product_parts(first, file, constants, next)
+    angle_parts(writer, n, from, to);
+    product_parts(writer, first);
 }
 
-// A flow at the bus: coefficients of its vm squared, wr and wi.
-fn flow_part(
-    first: usize,
-    bus: usize,
-    c: f64,
-    d: f64,
-    e: f64,
-    file: &mut [u32],
-    constants: &mut [f64],
-    writer: Writer,
-) -> Writer
-    requires { (first ≤ 65536) × (bus < 4096)
-        × Room file.old constants.old writer (part_tokens 10 (flow_sum first bus c d e ∷ [])) }
-    ensures { Written file.old constants.old writer (part_tokens 10 (flow_sum first bus c d e ∷ []))
-        file.new constants.new result }
+// A flow at the bus, by the coefficients of its vm squared, wr and wi. Inlined, as the functions that write and have two callers: the
+// writer's places then stay in registers.
+#[inline(always)]
+fn flow_part(writer: &mut ModelWriter, first: usize, bus: usize, coefficients: &[f64])
+    requires first { (first ≤ 65536) × (bus < 4096) }
+    requires three { length coefficients.now ≡ 3 }
+    requires room { Room writer.old (part_tokens 10 (flow_sum first bus coefficients.now 0 ∷ [])) }
+    ensures { Written writer.old (part_tokens 10 (flow_sum first bus coefficients.now 0 ∷ [])) writer.new }
 {
     let constant = writer.constant;
-    put(
-        file,
-        constants,
-        writer,
+    writer.put(
         &[
-            model_word(PART, writer.part),
-            model_word(SUM, 3),
-            MULTIPLY,
-            model_word(CONSTANT, constant),
-            model_word(SHARED, bus),
-            MULTIPLY,
-            model_word(CONSTANT, constant + 1),
-            model_word(SHARED, first + 2),
-            MULTIPLY,
-            model_word(CONSTANT, constant + 2),
-            model_word(SHARED, first + 3),
+            Mark::Shared.word(writer.part),
+            Kind::Sum.word(3),
+            Kind::Multiply.word(0),
+            Kind::Constant.word(constant),
+            Kind::Shared.word(bus),
+            Kind::Multiply.word(0),
+            Kind::Constant.word(constant + 1),
+            Kind::Shared.word(first + 2),
+            Kind::Multiply.word(0),
+            Kind::Constant.word(constant + 2),
+            Kind::Shared.word(first + 3),
         ],
-        &[c, d, e],
+        coefficients,
         1,
-    )
+    );
 }
 
 // p and q at one end.
-fn flow_parts(
-    first: usize,
-    bus: usize,
-    cs: [f64; 6],
-    file: &mut [u32],
-    constants: &mut [f64],
-    writer: Writer,
-) -> Writer
-    requires { (first ≤ 65536) × (bus < 4096)
-        × Room file.old constants.old writer (part_tokens 10 (flow_parts first bus cs 0)) }
-    ensures { Written file.old constants.old writer (part_tokens 10 (flow_parts first bus cs 0))
-        file.new constants.new result }
+#[inline(always)]
+fn flow_parts(writer: &mut ModelWriter, first: usize, bus: usize, coefficients: &[f64])
+    requires first { (first ≤ 65536) × (bus < 4096) }
+    requires six { length coefficients.now ≡ 6 }
+    requires room { Room writer.old (part_tokens 10 (flow_parts first bus coefficients.now 0)) }
+    ensures { Written writer.old (part_tokens 10 (flow_parts first bus coefficients.now 0)) writer.new }
 {
-    let next = flow_part(first, bus, cs[0], cs[1], cs[2], file, constants, writer);
-    flow_part(first, bus, cs[3], cs[4], cs[5], file, constants, next)
-}
-
-fn branch_parts(
-    n: usize,
-    first: usize,
-    from: usize,
-    to: usize,
-    cs: [f64; 12],
-    file: &mut [u32],
-    constants: &mut [f64],
-    writer: Writer,
-) -> Writer
-    requires { (n ≤ 256) × (first ≤ 65536) × (from < 4096) × (to < 4096)
-        × Room file.old constants.old writer (part_tokens 10 (all_parts n first from to cs)) }
-    ensures { Written file.old constants.old writer (part_tokens 10 (all_parts n first from to cs))
-        file.new constants.new result }
-{
-    let voltages = voltage_parts(n, first, from, to, file, constants, writer);
-    let at_from = [cs[0], cs[1], cs[2], cs[3], cs[4], cs[5]];
-    let flows = flow_parts(first, from, at_from, file, constants, voltages);
-    let at_to = [cs[6], cs[7], cs[8], cs[9], cs[10], cs[11]];
-    flow_parts(first, to, at_to, file, constants, flows)
+    flow_part(writer, first, bus, &coefficients[..3]);
+    flow_part(writer, first, bus, &coefficients[3..]);
 }
 
 // Of branch b.
-fn branch_flow(
-    words: &[u32],
-    numbers: &[f64],
-    layout: Layout,
-    b: usize,
-    file: &mut [u32],
-    constants: &mut [f64],
-    writer: Writer,
-) -> Writer
-    requires { Laid words.now numbers.now layout × (b < layout.branches)
-        × Room file.old constants.old writer (part_tokens 10 (branch_parts words.now numbers.now b)) }
-    ensures { Written file.old constants.old writer
-        (part_tokens 10 (branch_parts words.now numbers.now b))
-        file.new constants.new result }
+fn branch_flow(writer: &mut ModelWriter, tables: &Tables, b: usize)
+    requires branch { b < tables.now.layout.branches }
+    requires room { Room writer.old (branch_tokens tables.now.words.now tables.now.numbers.now b) }
+    ensures { Written writer.old (branch_tokens tables.now.words.now tables.now.numbers.now b) writer.new }
 {
-    let n = layout.buses;
-    let branch = branch_of(words, numbers, layout, b);
-    let from = branch.from;
-    let to = branch.to;
+    let n = tables.layout.buses;
+    let first = n + 8 * b;
+    let branch = tables.branch(b);
     let cs = coefficients(branch);
-    branch_parts(n, n + 8 * b, from, to, cs, file, constants, writer)
+    voltage_parts(writer, n, first, branch.from, branch.to);
+    flow_parts(writer, first, branch.from, &cs[..6]);
+    flow_parts(writer, first, branch.to, &cs[6..]);
 }
 
-fn branch_flows(
-    words: &[u32],
-    numbers: &[f64],
-    layout: Layout,
-    file: &mut [u32],
-    constants: &mut [f64],
-    writer: Writer,
-) -> Writer
-    requires { Laid words.now numbers.now layout
-        × Room file.old constants.old writer
-        (each layout.branches (λ b. part_tokens 10 (branch_parts words.now numbers.now b))) }
-    ensures { Written file.old constants.old writer
-        (each layout.branches (λ b. part_tokens 10 (branch_parts words.now numbers.now b)))
-        file.new constants.new result }
+fn branch_flows(writer: &mut ModelWriter, tables: &Tables)
+    requires { Room writer.old (each tables.now.layout.branches (branch_tokens tables.now.words.now tables.now.numbers.now)) }
+    ensures { Written writer.old
+        (each tables.now.layout.branches (branch_tokens tables.now.words.now tables.now.numbers.now))
+        writer.new }
 {
-    let m = layout.branches;
-    let mut next = writer;
-    let mut b = 0usize;
-    while b < m {
-        next = branch_flow(words, numbers, layout, b, file, constants, next);
-        b += 1;
+    for b in 0..tables.layout.branches {
+        branch_flow(writer, tables, b);
     }
-    next
 }
 
-pub fn shared_parts(
-    words: &[u32],
-    numbers: &[f64],
-    layout: Layout,
-    file: &mut [u32],
-    constants: &mut [f64],
-    writer: Writer,
-) -> Writer
-    requires { Laid words.now numbers.now layout
-        × Room file.old constants.old writer (shared_tokens words.now numbers.now layout.buses layout.branches) }
-    ensures { Written file.old constants.old writer
-        (shared_tokens words.now numbers.now layout.buses layout.branches)
-        file.new constants.new result }
+pub fn shared_parts(writer: &mut ModelWriter, tables: &Tables)
+    requires { let layout = tables.now.layout in
+        Room writer.old (shared_tokens tables.now.words.now tables.now.numbers.now layout.buses layout.branches) }
+    ensures { let layout = tables.now.layout in
+        Written writer.old
+        (shared_tokens tables.now.words.now tables.now.numbers.now layout.buses layout.branches)
+        writer.new }
 {
-    let squares = vm_squared(layout.buses, file, constants, writer);
-    branch_flows(words, numbers, layout, file, constants, squares)
+    vm_squared(writer, tables.layout.buses);
+    branch_flows(writer, tables);
 }

@@ -10,7 +10,8 @@ use Rattle.fdlibm.specs.Trig.{sine, cosine}
 use Rattle.network.specs.declared.records.Branch.{Branch}
 use Rattle.network.specs.Layout.{branch_record}
 use Rattle.network.specs.Network.{line_g, line_b, tap, shift}
-use Rattle.pi_model.specs.Flow.{Complex, conjugate, transfer_from, transfer_to, coefficients_of, coefficients}
+use Rattle.pi_model.specs.declared.complex.Complex.{Complex}
+use Rattle.pi_model.specs.Flow.{conjugate, transfer_from, transfer_to, coefficients_of, coefficients}
 
 -- ---- the two ends see the shift turned opposite ways
 

@@ -1,5 +1,5 @@
 -- A branch's flows: branch_flow's twelve coefficients, and numeric_branch_flow's four flows with num-complex's operators (000).
--- Document 01, "The accepted point", has the operators' order. A complex number a + bi is the list of a and b.
+-- Document 01, "The accepted point", has the operators' order.
 use Rattle.std.specs.Prelude.{ℕ, List, [], ◌∷◌, get_or, Float}
 use Rattle.std.specs.Float.{nan}
 use Rattle.std.specs.Float.Ieee.{neg}
@@ -8,6 +8,8 @@ use Rattle.fdlibm.specs.Trig.{sine, cosine}
 use Rattle.network.specs.declared.records.Branch.{Branch}
 use Rattle.network.specs.Layout.{branch_record}
 use Rattle.network.specs.Network.{from, to, va_column, vm_column}
+use Rattle.pi_model.specs.declared.complex.Complex.{Complex}
+use Rattle.pi_model.specs.declared.flow.Flows.{Flows}
 
 -- branch_flow: the coefficients of vm squared, wr and wi in p_from, q_from, p_to, q_to of branch r
 unfoldable pub coefficients_of : Branch → List Float
@@ -28,42 +30,33 @@ coefficients ws xs b = coefficients_of (branch_record ws xs b)
 
 -- ---- complex numbers
 
-abbrev pub Complex : Type 0
-Complex = List Float
-
-abbrev pub re : Complex → Float
-re z = get_or z 0 nan
-
-abbrev pub im : Complex → Float
-im z = get_or z 1 nan
-
 abbrev pub complex : Float → Float → Complex
-complex a b = a ∷ b ∷ []
+complex a b = record { re = a; im = b }
 
 abbrev pub plus : Complex → Complex → Complex
-plus z w = complex (re z ⊕ re w) (im z ⊕ im w)
+plus z w = complex (z.re ⊕ w.re) (z.im ⊕ w.im)
 
 abbrev pub minus : Complex → Complex → Complex
-minus z w = complex (re z ⊖ re w) (im z ⊖ im w)
+minus z w = complex (z.re ⊖ w.re) (z.im ⊖ w.im)
 
 -- "the product is ac - bd, ad + bc"
 abbrev pub times : Complex → Complex → Complex
-times z w = complex (re z ⊗ re w ⊖ im z ⊗ im w) (re z ⊗ im w ⊕ im z ⊗ re w)
+times z w = complex (z.re ⊗ w.re ⊖ z.im ⊗ w.im) (z.re ⊗ w.im ⊕ z.im ⊗ w.re)
 
 -- "norm_sqr is aa + bb"
 abbrev pub norm_sqr : Complex → Float
-norm_sqr z = re z ⊗ re z ⊕ im z ⊗ im z
+norm_sqr z = z.re ⊗ z.re ⊕ z.im ⊗ z.im
 
 -- "the quotient is ac + bd, bc - ad, each over cc + dd"
 abbrev pub quotient : Complex → Complex → Complex
-quotient z w = complex ((re z ⊗ re w ⊕ im z ⊗ im w) ⊘ norm_sqr w) ((im z ⊗ re w ⊖ re z ⊗ im w) ⊘ norm_sqr w)
+quotient z w = complex ((z.re ⊗ w.re ⊕ z.im ⊗ w.im) ⊘ norm_sqr w) ((z.im ⊗ w.re ⊖ z.re ⊗ w.im) ⊘ norm_sqr w)
 
 -- "a real divisor divides each part"
 abbrev pub over_real : Complex → Float → Complex
-over_real z r = complex (re z ⊘ r) (im z ⊘ r)
+over_real z r = complex (z.re ⊘ r) (z.im ⊘ r)
 
 abbrev pub conjugate : Complex → Complex
-conjugate z = complex (re z) (neg (im z))
+conjugate z = complex z.re (neg z.im)
 
 -- "polar r, t is r × cos t, r × sin t"
 abbrev pub polar : Float → Float → Complex
@@ -88,19 +81,23 @@ self_to y yt = plus y yt
 abbrev pub transfer_to : Complex → Complex → Complex
 transfer_to y t = quotient y t
 
--- p_from, q_from, p_to, q_to of branch r between buses with voltages vf and vt
-unfoldable pub flow_of : Branch → Complex → Complex → List Float
+-- the flows of branch r between buses with voltages vf and vt
+unfoldable pub flow_of : Branch → Complex → Complex → Flows
 flow_of r vf vt =
     let y = complex r.g r.b in
     let t = polar r.tap r.shift in
     let sf = flow_at vf vt (self_from y (complex r.g_fr r.b_fr) t) (transfer_from y t) in
     let st = flow_at vt vf (self_to y (complex r.g_to r.b_to)) (transfer_to y t) in
-    re sf ∷ im sf ∷ re st ∷ im st ∷ []
+    record { p_from = sf.re; q_from = sf.im; p_to = st.re; q_to = st.im }
 
 -- the voltage at bus i of the point x
 abbrev pub voltage : List ℕ → List Float → ℕ → Complex
 voltage ws x i = polar (get_or x (vm_column ws i) nan) (get_or x (va_column ws i) nan)
 
+-- the four as a list, in the order in which they are given out
+abbrev pub listed : Flows → List Float
+listed f = f.p_from ∷ f.q_from ∷ f.p_to ∷ f.q_to ∷ []
+
 -- the flows of branch b
 unfoldable pub flow : List ℕ → List Float → List Float → ℕ → List Float
-flow ws xs x b = flow_of (branch_record ws xs b) (voltage ws x (from ws b)) (voltage ws x (to ws b))
+flow ws xs x b = listed (flow_of (branch_record ws xs b) (voltage ws x (from ws b)) (voltage ws x (to ws b)))

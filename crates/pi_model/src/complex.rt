@@ -1,57 +1,94 @@
-// num-complex's operators, in its order of float operations. The number a + bi is the array of a and b.
+// num-complex's operators, in its order of float operations.
 ghost use Rattle.std.specs.Prelude.{◌≡◌};
-ghost use Rattle.pi_model.specs.Flow.{plus, minus, times, quotient, over_real, conjugate, polar, norm_sqr};
+ghost use Rattle.pi_model.specs.Flow.{complex, plus, minus, times, quotient, over_real, conjugate, polar, norm_sqr};
 
-pub fn plus(z: [f64; 2], w: [f64; 2]) -> [f64; 2]
-    ensures { result ≡ plus z w }
-{
-    [z[0] + w[0], z[1] + w[1]]
+use std::ops::{Add, Div, Mul, Sub};
+
+#[derive(Clone, Copy, Debug, PartialEq)]
+pub struct Complex {
+    pub re: f64,
+    pub im: f64,
 }
 
-pub fn minus(z: [f64; 2], w: [f64; 2]) -> [f64; 2]
-    ensures { result ≡ minus z w }
-{
-    [z[0] - w[0], z[1] - w[1]]
+impl Complex {
+    pub fn new(re: f64, im: f64) -> Self
+        ensures { result ≡ complex re im }
+    {
+        Complex { re, im }
+    }
+
+    // The number of absolute value r, at the angle theta.
+    pub fn from_polar(r: f64, theta: f64) -> Self
+        ensures { result ≡ polar r theta }
+    {
+        Complex::new(r * fdlibm::cos(theta), r * fdlibm::sin(theta))
+    }
+
+    pub fn conj(self) -> Self
+        ensures { result ≡ conjugate self }
+    {
+        Complex::new(self.re, -self.im)
+    }
+
+    pub fn norm_sqr(self) -> f64
+        ensures { result ≡ norm_sqr self }
+    {
+        self.re * self.re + self.im * self.im
+    }
 }
 
-pub fn times(z: [f64; 2], w: [f64; 2]) -> [f64; 2]
-    ensures { result ≡ times z w }
-{
-    [z[0] * w[0] - z[1] * w[1], z[0] * w[1] + z[1] * w[0]]
+impl Add for Complex {
+    type Output = Complex;
+
+    ghost add_gives = { λ z w r. r ≡ plus z w };
+
+    fn add(self, other: Complex) -> Complex {
+        Complex::new(self.re + other.re, self.im + other.im)
+    }
 }
 
-pub fn norm_sqr(z: [f64; 2]) -> f64
-    ensures { result ≡ norm_sqr z }
-{
-    z[0] * z[0] + z[1] * z[1]
+impl Sub for Complex {
+    type Output = Complex;
+
+    ghost sub_gives = { λ z w r. r ≡ minus z w };
+
+    fn sub(self, other: Complex) -> Complex {
+        Complex::new(self.re - other.re, self.im - other.im)
+    }
 }
 
-pub fn quotient(z: [f64; 2], w: [f64; 2]) -> [f64; 2]
-    ensures { result ≡ quotient z w }
-{
-    let n = w[0] * w[0] + w[1] * w[1];
-    [
-        (z[0] * w[0] + z[1] * w[1]) / n,
-        (z[1] * w[0] - z[0] * w[1]) / n,
-    ]
+impl Mul for Complex {
+    type Output = Complex;
+
+    ghost mul_gives = { λ z w r. r ≡ times z w };
+
+    fn mul(self, other: Complex) -> Complex {
+        let re = self.re * other.re - self.im * other.im;
+        let im = self.re * other.im + self.im * other.re;
+        Complex::new(re, im)
+    }
+}
+
+impl Div for Complex {
+    type Output = Complex;
+
+    ghost div_gives = { λ z w r. r ≡ quotient z w };
+
+    fn div(self, other: Complex) -> Complex {
+        let norm_sqr = other.norm_sqr();
+        let re = self.re * other.re + self.im * other.im;
+        let im = self.im * other.re - self.re * other.im;
+        Complex::new(re / norm_sqr, im / norm_sqr)
+    }
 }
 
 // A real divisor divides each part.
-pub fn over_real(z: [f64; 2], divisor: f64) -> [f64; 2]
-    ensures { result ≡ over_real z divisor }
-{
-    [z[0] / divisor, z[1] / divisor]
-}
+impl Div<f64> for Complex {
+    type Output = Complex;
 
-pub fn conjugate(z: [f64; 2]) -> [f64; 2]
-    ensures { result ≡ conjugate z }
-{
-    [z[0], -z[1]]
-}
+    ghost div_gives = { λ z divisor r. r ≡ over_real z divisor };
 
-// from_polar: so long, turned by the angle.
-pub fn polar(length: f64, angle: f64) -> [f64; 2]
-    ensures { result ≡ polar length angle }
-{
-    [length * fdlibm::cos(angle), length * fdlibm::sin(angle)]
+    fn div(self, divisor: f64) -> Complex {
+        Complex::new(self.re / divisor, self.im / divisor)
+    }
 }

@@ -4,5 +4,5 @@
 mod complex;
 mod flow;
 
-pub use complex::polar;
-pub use flow::{coefficients, numeric_branch_flow};
+pub use complex::Complex;
+pub use flow::{Flows, coefficients, numeric_branch_flow};

@@ -1,39 +1,32 @@
 -- The steps of a curve's loops.
-use mathlib.Core.Path.{◌≡◌, refl, ap, sym, ◌∙◌}
+use mathlib.Core.Path.{◌≡◌, refl, ap, ◌∙◌}
 use mathlib.Core.List.{List, [], ◌∷◌, ◌++◌}
 use mathlib.Core.Bool.{true}
 use Prim.Native.Nat.{ℕ, suc, ◌<◌}
-use lib.ListN.{length, get_or, set}
-use lib.Seq.{take-suc-set, get_or-take}
-use lib.Ieee.{Float, nan, inf}
+use lib.ListN.{length, get_or, set, take}
+use lib.Seq.{take-suc-set}
+use lib.Ieee.{Float, inf}
 use Rattle.base.specs.Loop.{loop, table}
-use Rattle.base.proofs.Loops.{get_d_table}
+use Rattle.base.proofs.Loops.{length_table, get_d_table}
 use Rattle.float.specs.Number.{◌⊕◌, ◌⊗◌, maximum}
 use Rattle.piecewise_cost.specs.Curve.{slope, intercept, evaluate}
-use Rattle.piecewise_cost.specs.internal.Prepared.{slopes, intercepts, Prepared}
+use Rattle.piecewise_cost.specs.internal.Prepared.{segment, Prepared}
+use Rattle.piecewise_cost.specs.declared.curve.Segment.{Segment}
 
 module _ {xs : List Float} {at : ℕ} where
-  pub prepared_none : {l m : List Float} → Prepared xs at 0 l m
-  unfolding slopes intercepts loop table
-  prepared_none = record { slopes_are = refl; intercepts_are = refl }
+  pub prepared_none : {l : List Segment} → Prepared xs at 0 l
+  unfolding loop table
+  prepared_none = record { are = refl }
 
-  pub prepared_next : {s : ℕ} {l m : List Float} → Prepared xs at s l m → s < length l → s < length m
-      → Prepared xs at (suc s) (set l s (slope xs at s)) (set m s (intercept xs at s))
-  unfolding slopes intercepts loop table
-  prepared_next {s} {l} {m} p h k =
-      record {
-        slopes_are = take-suc-set l s (slope xs at s) h ∙ ap (λ t. t ++ (slope xs at s ∷ [])) p.slopes_are;
-        intercepts_are = take-suc-set m s (intercept xs at s) k ∙ ap (λ t. t ++ (intercept xs at s ∷ [])) p.intercepts_are;
-      }
+  pub prepared_next : {s : ℕ} {l : List Segment} → Prepared xs at s l → s < length l → Prepared xs at (suc s) (set l s (segment xs at s))
+  unfolding loop table
+  prepared_next {s} {l} p h = record { are = take-suc-set l s (segment xs at s) h ∙ ap (λ t. t ++ (segment xs at s ∷ [])) p.are }
 
-  pub prepared_slope : {n s : ℕ} {l m : List Float} → Prepared xs at n l m → s < n → get_or l s nan ≡ slope xs at s
-  unfolding slopes
-  prepared_slope {n} {s} {l} {m} p h = sym (get_or-take n l s nan h) ∙ ap (λ t. get_or t s nan) p.slopes_are ∙ get_d_table n (slope xs at) nan s h
+  pub prepared_get : {n s : ℕ} {l : List Segment} (d : Segment) → Prepared xs at n l → s < n → get_or (take n l) s d ≡ segment xs at s
+  prepared_get {n} {s} d p h = ap (λ t. get_or t s d) p.are ∙ get_d_table n (segment xs at) d s h
 
-  pub prepared_intercept : {n s : ℕ} {l m : List Float} → Prepared xs at n l m → s < n → get_or m s nan ≡ intercept xs at s
-  unfolding intercepts
-  prepared_intercept {n} {s} {l} {m} p h =
-      sym (get_or-take n m s nan h) ∙ ap (λ t. get_or t s nan) p.intercepts_are ∙ get_d_table n (intercept xs at) nan s h
+  pub prepared_length : {n : ℕ} {l : List Segment} → Prepared xs at n l → length (take n l) ≡ n
+  prepared_length {n} p = ap length p.are ∙ length_table n (segment xs at)
 
 pub evaluate_none : (xs : List Float) (at : ℕ) (p : Float) → evaluate xs at 0 p ≡ inf true
 unfolding evaluate loop

@@ -10,15 +10,22 @@ use network::MOST_POINTS;
 // A curve has one segment fewer than it has points.
 const MOST_SEGMENTS: usize = MOST_POINTS - 1;
 
-// The tables' first `count` entries are the segments'.
-#[derive(Clone, Copy)]
+// The line from a point of the curve to the next.
+#[derive(Clone, Copy, Debug, PartialEq)]
+pub struct Segment {
+    slope: f64,
+    intercept: f64,
+}
+
+// The table's first `count` entries are the curve's segments.
+#[derive(Clone, Copy, Debug)]
 pub struct PiecewiseCost {
-    slopes: [f64; MOST_SEGMENTS],
-    intercepts: [f64; MOST_SEGMENTS],
+    segments: [Segment; MOST_SEGMENTS],
     count: usize,
 }
 
 // The segment's slope, from its point to the next; the curve's numbers start at `at`.
+#[tactic(auto, unfolding(crate::specs::Curve::slope))]
 pub fn slope_of(numbers: &[f64], at: usize, segment: usize) -> f64
     requires { at + 2 * segment + 4 ≤ length numbers.now }
     ensures { result ≡ slope numbers.now at segment }
@@ -28,6 +35,7 @@ pub fn slope_of(numbers: &[f64], at: usize, segment: usize) -> f64
     (numbers[next + 1] - numbers[power + 1]) / (numbers[next] - numbers[power])
 }
 
+#[tactic(auto, unfolding(crate::specs::Curve::intercept))]
 pub fn intercept_of(numbers: &[f64], at: usize, segment: usize) -> f64
     requires { at + 2 * segment + 4 ≤ length numbers.now }
     ensures { result ≡ intercept numbers.now at segment }
@@ -37,52 +45,33 @@ pub fn intercept_of(numbers: &[f64], at: usize, segment: usize) -> f64
     numbers[power + 1] - slope * numbers[power]
 }
 
-// A curve has a segment from each point to the next.
-fn segments_of(points: usize) -> usize
-    ensures { result ≡ points - 1 }
-{
-    if points == 0 {
-        return 0;
-    }
-    points - 1
-}
-
 impl PiecewiseCost {
     pub fn from_prepared(numbers: &[f64], at: usize, points: usize) -> Self
         requires { (at + 2 * points ≤ length numbers.now) × (points ≤ most_points) }
-        ensures { (result.count ≡ points - 1) × Prepared numbers.now at result.count result.slopes result.intercepts }
+        ensures { (result.count ≡ points - 1) × Prepared numbers.now at result.count result.segments }
     {
-        let count = segments_of(points);
-        let mut slopes = [0.0; MOST_SEGMENTS];
-        let mut intercepts = [0.0; MOST_SEGMENTS];
-        let mut segment: usize = 0;
-        while segment < count {
-            slopes[segment] = slope_of(numbers, at, segment);
-            intercepts[segment] = intercept_of(numbers, at, segment);
-            segment += 1;
+        let count = points.saturating_sub(1);
+        let none = Segment {
+            slope: 0.0,
+            intercept: 0.0,
+        };
+        let mut segments = [none; MOST_SEGMENTS];
+        for segment in 0..count {
+            let slope = slope_of(numbers, at, segment);
+            let intercept = intercept_of(numbers, at, segment);
+            segments[segment] = Segment { slope, intercept };
         }
-        PiecewiseCost {
-            slopes,
-            intercepts,
-            count,
-        }
+        PiecewiseCost { segments, count }
     }
 
-    // The largest over the segments, whichever curve the tables were made from.
+    // The largest over the segments, whichever curve they were made from.
     pub fn evaluate(self, power: f64) -> f64
         requires { self.count < most_points }
-        ensures { (xs : List Float) (at : ℕ) → Prepared xs at self.count self.slopes self.intercepts
-            → result ≡ evaluate xs at self.count power }
+        ensures { (xs : List Float) (at : ℕ) → Prepared xs at self.count self.segments → result ≡ evaluate xs at self.count power }
     {
-        let slopes = self.slopes;
-        let intercepts = self.intercepts;
-        let count = self.count;
-        let infinity = 1.0 / 0.0;
-        let mut most = -infinity;
-        let mut segment: usize = 0;
-        while segment < count {
-            most = float::maximum(most, slopes[segment] * power + intercepts[segment]);
-            segment += 1;
+        let mut most = f64::NEG_INFINITY;
+        for segment in &self.segments[..self.count] {
+            most = float::maximum(most, segment.slope * power + segment.intercept);
         }
         most
     }

@@ -20,8 +20,7 @@ use Rattle.acopf.specs.Model.{model, file_words}
 use Rattle.acopf.specs.Factor.{constants64, network_fault}
 use Rattle.acopf.proofs.Counts.{count_constants, lower_columns, lower_rows}
 use Rattle.acopf.proofs.Right.{tables_clear}
-use Rattle.compile.specs.declared.Compiled.{Compiled}
-use Rattle.compile.specs.Compile.{compiled, sized}
+use Rattle.compile.specs.Compile.{Answer, compiled, sized}
 use Rattle.compile.specs.Lists.{Lists, lent, Held}
 use Rattle.compile.proofs.Counts.{counted, compiled_exactly, fronts, told}
 use Rattle.reading.specs.ReadsAs.{ReadsAs}
@@ -54,8 +53,8 @@ module _ (ws : List ℕ) (xs : List Float) where
       rw (f.words held_words, f.constants held_constants, bits_back ws xs accepted doubles, n.constants, c, r) (written_reads accepted)
 
   -- 3. The same of a call of compile, from its contract: the first three hypotheses are the clauses of its `ensures`, in their order, with the lists at entry and at
-  -- exit, and the fourth is that it refuses nothing.
-  pub compile_read : (before after : Lists) (r : Compiled) → r ≡ compiled ws xs (lent before) → Held ws xs before after → Doubles xs → r.fault.number ≡ 0 → FileReads r after ws xs
+  -- exit and r what its result answers, and the fourth is that it refuses nothing.
+  pub compile_read : (before after : Lists) (r : Answer) → r ≡ compiled ws xs (lent before) → Held ws xs before after → Doubles xs → r.fault.number ≡ 0 → FileReads r after ws xs
   compile_read before after r is held doubles e =
       rw (is, held.words, held.constants) (compiled_reads doubles (lent before) (rw is at e) before.words before.constants)
 

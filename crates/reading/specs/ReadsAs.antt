@@ -1,7 +1,7 @@
 -- Document 00, condition 3, for the model of a network: what is said of a file that is read as that model, in its sentences' order. The
 -- laws are in proofs/Reading.antt.
 use Rattle.std.specs.Prelude.{ℕ, ◌+◌, ◌≤◌, ◌<◌, ◌≡◌, ◌↔◌, List, map, length, get_or, take, drop, Float}
-use Rattle.base.specs.Fault.{fault, clear}
+use Rattle.base.specs.Fault.{fault, clear, fault_of}
 use Rattle.base.specs.Refusal.{MODEL, ROW}
 use Rattle.nl.specs.Expr.{Expr, Terms, constants_of, words}
 use Rattle.nl.specs.File.{Model, part_words, at_rows, StandsFor}
@@ -31,7 +31,7 @@ module _ (ws : List ℕ) (xs : List Float) where
 -- constants and columns, the finder refuses nothing for row r, and the part is the words of e, whose first constant has the number k,
 -- from `start` on
 pub record Answers (file : List ℕ) (constants columns r start k : ℕ) (e : Expr) : Type 0 where
-  pub not_refused : (find file constants columns r).fault ≡ clear
+  pub not_refused : fault_of (find file constants columns r) ≡ clear
   pub starts : row_start file constants columns r ≡ start
   pub long : row_length file constants columns r ≡ length (words k e)
   pub its_words : row_words file constants columns r ≡ words k e
@@ -46,14 +46,14 @@ module _ (file bits : List ℕ) (constants columns row_count : ℕ) where
     -- and for nothing else, whatever number of columns is handed in;
     pub nothing_else : (columns' : ℕ) (N : Model) → StandsFor file bits columns' N → N ≡ model ws xs
     -- "for one exactly when the finder does not say 17": it does not, whichever row is asked for;
-    pub not_17 : (r : ℕ) → ¬ ((find file constants columns r).fault.number ≡ MODEL)
+    pub not_17 : (r : ℕ) → ¬ ((fault_of (find file constants columns r)).number ≡ MODEL)
     -- "it then answers for row r, from 0, the words of that row's expression where they stand", row r being the r-th of the rows of
     -- condition 2 (whatever d, which stands for a row past the last),
     pub row : (r : ℕ) (d : Row) → r < row_count
         → Answers file constants columns r (expression_start ws xs r) (first_constant ws xs r) (get_or (rows ws xs) r d).expression
     -- "and 18 exactly when there is no such row", with the row count as its place.
-    pub no_row : (r : ℕ) → ((find file constants columns r).fault.number ≡ ROW) ↔ (row_count ≤ r)
-    pub no_row_place : (r : ℕ) → row_count ≤ r → (find file constants columns r).fault ≡ fault ROW row_count
+    pub no_row : (r : ℕ) → ((fault_of (find file constants columns r)).number ≡ ROW) ↔ (row_count ≤ r)
+    pub no_row_place : (r : ℕ) → row_count ≤ r → fault_of (find file constants columns r) ≡ fault ROW row_count
     -- "Any two files that pass reading .. have equal words and bitwise equal constants exactly when they stand for the same shared parts,
     -- rows and objective": this file and any other.
     pub same : (file' bits' : List ℕ) (columns' : ℕ) (N : Model) → StandsFor file' bits' columns' N

@@ -3,8 +3,7 @@
 use Rattle.std.specs.Prelude.{ℕ, List, map, take, Float}
 use Rattle.std.specs.Float.{binary64}
 use Rattle.std.specs.Float.Ieee.{to_bits}
-use Rattle.compile.specs.declared.Compiled.{Compiled}
-use Rattle.compile.specs.Compile.{compiled, words_after, constants_after}
+use Rattle.compile.specs.Compile.{Answer, compiled, words_after, constants_after}
 use Rattle.compile.specs.Lists.{Lists}
 use Rattle.reading.specs.ReadsAs.{ReadsAs}
 
@@ -17,7 +16,7 @@ module _ (ws : List ℕ) (xs : List Float) (lent : List ℕ) where
   front_bits before = map (to_bits binary64) (take (compiled ws xs lent).constants (constants_after ws xs lent before))
 
 -- the front parts of the lists l that the counts of the answer c name, and its column count, are read as the network's model
-abbrev pub FileReads : Compiled → Lists → List ℕ → List Float → Type 0
+abbrev pub FileReads : Answer → Lists → List ℕ → List Float → Type 0
 FileReads c l ws xs =
     ReadsAs (take c.words l.words) (map (to_bits binary64) (take c.constants l.constants))
     c.constants c.columns c.rows ws xs

@@ -1,13 +1,14 @@
 -- One turn of each loop that takes a largest; and the variable bounds, column by column, are those of the sections one after the other.
 use mathlib.Core.Path.{◌≡◌, refl, ap, sym, ◌∙◌}
-use mathlib.Core.Bool.{Bool, true, false, cond}
+use mathlib.Core.Bool.{Bool, false, cond}
 use mathlib.Core.List.{List, ◌++◌}
-use Prim.Native.Nat.{ℕ, zero, suc, ◌+◌, ◌*◌, ◌<◌}
+use Prim.Native.Nat.{ℕ, zero, suc, ◌+◌, ◌*◌, ◌<◌, ◌≤◌}
 use native.Mathlib.Nat.{add-zero, zero-add, add-suc}
 use native.Mathlib.Numerals.{add-one}
 use native.Mathlib.Omega.{arith}
 use lib.Ieee.{Float, nan, neg}
-use lib.ListN.{length-append}
+use lib.ListN.{length, take, drop, length-append}
+use Rattle.std.proofs.lemmas.List.{get_or-take, get_or-drop}
 use Rattle.base.specs.Loop.{loop, table}
 use Rattle.base.proofs.Loops.{length_table, Block, block_table, block_left, block_right}
 use Rattle.float.specs.Number.{maximum, zero64}
@@ -15,7 +16,7 @@ use Rattle.bounds.specs.Bounds.{huge64, positive_violation}
 use Rattle.network.specs.Network.{buses, generators, epigraphs_before, columns, number}
 use Rattle.acopf.specs.Columns.{vm_lower, vm_upper, pg_lower, pg_upper, qg_lower, qg_upper, column_lower, column_upper}
 use Rattle.residuals.specs.Residuals.{largest, largest_where, variable_bounds}
-use Rattle.residuals.specs.internal.Section.{largest_with, outside, generator_lower, generator_upper}
+use Rattle.residuals.specs.internal.Section.{largest_with, outside}
 
 -- ---- a largest so far
 
@@ -54,15 +55,24 @@ unfolding largest_with loop
 with_same start zero f g h = refl
 with_same start (suc n) f g h = rw (with_same start n f g (λ i l. h i (omega arith)), h n (omega arith))
 
-pub where_same : (n : ℕ) (t : ℕ → Bool) (f g : ℕ → Float) → ((i : ℕ) → i < n → f i ≡ g i) → largest_where n t f ≡ largest_where n t g
-unfolding largest_where loop
-where_same zero t f g h = refl
-where_same (suc n) t f g h = rw (where_same n t f g (λ i l. h i (omega arith)), h n (omega arith))
-
 pub with_cong : {start start' : Float} {f g : ℕ → Float} (n : ℕ) → start ≡ start' → ((i : ℕ) → i < n → f i ≡ g i) → largest_with start n f ≡ largest_with start' n g
 with_cong {start} {start'} {f} {g} n e h = rw e (with_same start' n f g h)
 
+pub largest_same : (n : ℕ) (f g : ℕ → Float) → ((i : ℕ) → i < n → f i ≡ g i) → largest n f ≡ largest n g
+unfolding largest largest_with
+largest_same n f g h = with_same zero64 n f g h
+
 -- ---- the columns by section
+
+-- the section's numbers are the list's from place `from` on
+abbrev pub Part : List Float → ℕ → ℕ → List Float → Type 0
+Part x from n section = (j : ℕ) → j < n → number section j ≡ number x (from + j)
+
+pub front_part : (x : List Float) (n : ℕ) → Part x 0 n (take n x)
+front_part x n j h = rw zero-add (get_or-take n x j nan h)
+
+pub inner_part : (x : List Float) (from n count : ℕ) → n ≤ count → Part x from n (take count (drop from x))
+inner_part x from n count le j h = get_or-take count (drop from x) j nan (omega arith) ∙ get_or-drop from x j nan
 
 pub with_more : (start : Float) (a b m : ℕ) (f : ℕ → Float) → a + b ≡ m → largest_with start m f ≡ largest_with (largest_with start a f) b (λ i. f (a + i))
 unfolding largest_with loop
@@ -104,44 +114,30 @@ module _ (ws : List ℕ) (xs : List Float) where
   unfolding column_upper
   upper_five = five_tables (buses ws) (generators ws) (epigraphs_before ws (generators ws)) _ _ _ _ _
 
-  pg_lower_is : (g : ℕ) → pg_lower ws xs g ≡ generator_lower ws xs true g
-  unfolding pg_lower
-  pg_lower_is g = refl
-
-  pg_upper_is : (g : ℕ) → pg_upper ws xs g ≡ generator_upper ws xs true g
-  unfolding pg_upper
-  pg_upper_is g = refl
-
-  qg_lower_is : (g : ℕ) → qg_lower ws xs g ≡ generator_lower ws xs false g
-  unfolding qg_lower
-  qg_lower_is g = refl
-
-  qg_upper_is : (g : ℕ) → qg_upper ws xs g ≡ generator_upper ws xs false g
-  unfolding qg_upper
-  qg_upper_is g = refl
-
 module _ (ws : List ℕ) (xs x : List Float) where
   abbrev whole : ℕ → Float
   whole j = positive_violation (number x j) (number (column_lower ws xs) j) (number (column_upper ws xs) j)
 
   -- a section's members, by the bounds that stand at its places
-  part_same : (from n : ℕ) (lower upper : ℕ → Float) → Block (column_lower ws xs) from n lower → Block (column_upper ws xs) from n upper
-      → (j : ℕ) → j < n → whole (from + j) ≡ outside x from lower upper j
-  part_same from n lower upper a b j l = rw (a.its j nan l, b.its j nan l)
+  part_same : (from n : ℕ) (section : List Float) (lower upper : ℕ → Float) → Part x from n section
+      → Block (column_lower ws xs) from n lower → Block (column_upper ws xs) from n upper
+      → (j : ℕ) → j < n → whole (from + j) ≡ outside section lower upper j
+  part_same from n section lower upper e a b j l = rw (a.its j nan l, b.its j nan l, e j l)
 
   whole_is : variable_bounds ws xs x ≡ largest_with zero64 (2 * buses ws + 2 * generators ws + epigraphs_before ws (generators ws)) whole
   unfolding variable_bounds largest largest_with columns
   whole_is = refl
 
-  pub by_section : (n k e : ℕ) → n ≡ buses ws → k ≡ generators ws → e ≡ epigraphs_before ws (generators ws)
+  by_section : (n k e : ℕ) → n ≡ buses ws → k ≡ generators ws → e ≡ epigraphs_before ws (generators ws)
+      → (va vm pg qg epigraph : List Float) → Part x 0 n va → Part x n n vm → Part x (2 * n) k pg → Part x (2 * n + k) k qg → Part x (2 * n + 2 * k) e epigraph
       → variable_bounds ws xs x
       ≡ largest_with (largest_with (largest_with (largest_with (largest_with zero64
-      n (outside x 0 (λ i. neg huge64) (λ i. huge64)))
-      n (outside x n (vm_lower ws xs) (vm_upper ws xs)))
-      k (outside x (2 * n) (generator_lower ws xs true) (generator_upper ws xs true)))
-      k (outside x (2 * n + k) (generator_lower ws xs false) (generator_upper ws xs false)))
-      e (outside x (2 * n + 2 * k) (λ i. neg huge64) (λ i. huge64))
-  by_section n k e p q r =
+      n (outside va (λ i. neg huge64) (λ i. huge64)))
+      n (outside vm (vm_lower ws xs) (vm_upper ws xs)))
+      k (outside pg (pg_lower ws xs) (pg_upper ws xs)))
+      k (outside qg (qg_lower ws xs) (qg_upper ws xs)))
+      e (outside epigraph (λ i. neg huge64) (λ i. huge64))
+  by_section n k e p q r va vm pg qg epigraph a b c d f =
       let low = lower_five ws xs in
       let high = upper_five ws xs in
       let N = buses ws in
@@ -156,8 +152,22 @@ module _ (ws : List ℕ) (xs x : List Float) where
       ∙ with_cong K
       (with_more zero64 N N (2 * N) whole (omega arith)
       ∙ with_cong N
-      (with_same zero64 N whole (outside x 0 (λ i. neg huge64) (λ i. huge64)) (λ j l. ap whole (sym (zero-add j)) ∙ part_same 0 N _ _ low.va_block high.va_block j l))
-      (part_same N N _ _ low.vm_block high.vm_block))
-      (λ j l. part_same (2 * N) K _ _ low.pg_block high.pg_block j l ∙ rw (pg_lower_is ws xs j, pg_upper_is ws xs j)))
-      (λ j l. part_same (2 * N + K) K _ _ low.qg_block high.qg_block j l ∙ rw (qg_lower_is ws xs j, qg_upper_is ws xs j)))
-      (part_same (2 * N + 2 * K) E _ _ low.epigraph_block high.epigraph_block))
+      (with_same zero64 N whole (outside va (λ i. neg huge64) (λ i. huge64)) (λ j l. ap whole (sym (zero-add j)) ∙ part_same 0 N va _ _ (rw p at a) low.va_block high.va_block j l))
+      (part_same N N vm _ _ (rw p at b) low.vm_block high.vm_block))
+      (part_same (2 * N) K pg _ _ (rw (p, q) at c) low.pg_block high.pg_block))
+      (part_same (2 * N + K) K qg _ _ (rw (p, q) at d) low.qg_block high.qg_block))
+      (part_same (2 * N + 2 * K) E epigraph _ _ (rw (p, q, r) at f) low.epigraph_block high.epigraph_block))
+
+  -- the largest after each of the sections
+  pub sections_are : (n k e : ℕ) → n ≡ buses ws → k ≡ generators ws → e ≡ epigraphs_before ws (generators ws)
+      → (va vm pg qg epigraph : List Float) → length va ≡ n → length epigraph ≡ e
+      → Part x 0 n va → Part x n n vm → Part x (2 * n) k pg → Part x (2 * n + k) k qg → Part x (2 * n + 2 * k) e epigraph
+      → {after_va after_vm after_pg after_qg all : Float}
+      → after_va ≡ largest_with zero64 (length va) (outside va (λ i. neg huge64) (λ i. huge64))
+      → after_vm ≡ largest_with after_va n (outside vm (vm_lower ws xs) (vm_upper ws xs))
+      → after_pg ≡ largest_with after_vm k (outside pg (pg_lower ws xs) (pg_upper ws xs))
+      → after_qg ≡ largest_with after_pg k (outside qg (qg_lower ws xs) (qg_upper ws xs))
+      → all ≡ largest_with after_qg (length epigraph) (outside epigraph (λ i. neg huge64) (λ i. huge64))
+      → all ≡ variable_bounds ws xs x
+  sections_are n k e p q r va vm pg qg epigraph s t a b c d f u v w y z =
+      z ∙ rw (y, w, v, u, s, t) (sym (by_section n k e p q r va vm pg qg epigraph a b c d f))

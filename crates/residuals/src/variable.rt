@@ -1,106 +1,80 @@
 // Residual 3, variable bounds: the columns by section, va, vm, pg, qg, epigraphs. Each section goes on from the largest before it.
-ghost use Rattle.std.specs.Prelude.{◌≡◌, cond, ◌+◌, ◌≤◌, length};
+ghost use Rattle.std.specs.Prelude.{◌≡◌, ◌≤◌, length, Float};
 ghost use Rattle.std.specs.Float.Ieee.{neg};
-ghost use Rattle.float.specs.Number.{zero64};
-ghost use Rattle.bounds.specs.Bounds.{huge64, positive_violation};
+ghost use Rattle.bounds.specs.Bounds.{huge64};
+ghost use Rattle.network.specs.declared.records.Generator.{Generator};
+ghost use Rattle.network.specs.internal.Records.{generator_record};
 ghost use Rattle.acopf.specs.Columns.{vm_lower, vm_upper};
-ghost use Rattle.derived.specs.internal.Agree.{Ready};
 ghost use Rattle.residuals.specs.Residuals.{variable_bounds};
-ghost use Rattle.residuals.specs.internal.Section.{largest_with, outside, generator_lower, generator_upper};
+ghost use Rattle.residuals.specs.internal.Section.{largest_with, outside, held_lower, held_upper};
 
+use acopf::{lower_bound, upper_bound, vm_lower, vm_upper};
 use bounds::positive_violation;
-use network::{Bus, Layout, bus_of, first_generator, generator_of, next_generator};
+use derived::Candidate;
+use network::{Generator, Tables};
 
-// Columns with no bounds but -1e19 to 1e19, from column `from` on.
-fn free_bounds(point: &[f64], from: usize, count: usize, start: f64) -> f64
-    requires { from + count ≤ length point.now }
-    ensures { result ≡ largest_with start count (outside point.now from (λ j. neg huge64) (λ j. huge64)) }
+// Columns with no bounds but -1e19 to 1e19.
+fn free_bounds(columns: &[f64], start: f64) -> f64
+    ensures { result ≡ largest_with start (length columns.now) (outside columns.now (λ j. neg huge64) (λ j. huge64)) }
 {
     let mut most = start;
-    let mut j = 0usize;
-    while j < count {
-        most = float::maximum(most, positive_violation(point[from + j], -1e19, 1e19));
-        j += 1;
+    for x in columns {
+        most = float::maximum(most, positive_violation(*x, -1e19, 1e19));
     }
     most
 }
 
-// How far vm is outside the bus's bounds, which are 0 and 1e19 where its word has none active.
-fn vm_outside(bus: Bus, vm: f64) -> f64
-    ensures { result ≡ positive_violation vm (cond bus.bounded bus.vm_min zero64) (cond bus.bounded bus.vm_max huge64) }
+// The column of each bus.
+fn vm_bounds(tables: &Tables, columns: &[f64], start: f64) -> f64
+    requires { tables.now.layout.buses ≤ length columns.now }
+    ensures { let ws = tables.now.words.now in let xs = tables.now.numbers.now in
+        result ≡ largest_with start tables.now.layout.buses (outside columns.now (vm_lower ws xs) (vm_upper ws xs)) }
 {
-    if bus.bounded {
-        return positive_violation(vm, bus.vm_min, bus.vm_max);
-    }
-    positive_violation(vm, 0.0, 1e19)
-}
-
-fn vm_bounds(words: &[u32], numbers: &[f64], point: &[f64], layout: Layout, start: f64) -> f64
-    requires { Ready words.now numbers.now point.now layout }
-    ensures { let ws = words.now in let xs = numbers.now in
-        result ≡ largest_with start layout.buses (outside point.now layout.buses (vm_lower ws xs) (vm_upper ws xs)) }
-{
-    let n = layout.buses;
     let mut most = start;
-    let mut i = 0usize;
-    while i < n {
-        let bus = bus_of(words, numbers, layout, i);
-        most = float::maximum(most, vm_outside(bus, point[n + i]));
-        i += 1;
+    for i in 0..tables.layout.buses {
+        let bus = tables.bus(i);
+        let off = positive_violation(columns[i], vm_lower(bus), vm_upper(bus));
+        most = float::maximum(most, off);
     }
     most
 }
 
-// pg's where active, else qg's.
-fn picked(active: bool, pg: f64, qg: f64) -> f64
-    ensures { result ≡ cond active pg qg }
-{
-    if active {
-        return pg;
-    }
-    qg
-}
-
-// pg where active, else qg: the columns from `from` on.
-fn generator_bounds(
-    words: &[u32],
-    numbers: &[f64],
-    point: &[f64],
-    layout: Layout,
-    active: bool,
-    from: usize,
+// The column of each generator, by its two bounds in the table.
+fn generator_bounds<F: Fn(Generator) -> (f64, f64)>(
+    tables: &Tables,
+    columns: &[f64],
+    bounds: F,
     start: f64,
 ) -> f64
-    requires { (Ready words.now numbers.now point.now layout) × (from + layout.generators ≤ length point.now) }
-    ensures { let ws = words.now in let xs = numbers.now in
-        result ≡ largest_with start layout.generators
-        (outside point.now from (generator_lower ws xs active) (generator_upper ws xs active)) }
+    requires callable { F.IsAlwaysCallable bounds }
+    requires room { tables.now.layout.generators ≤ length columns.now }
+    ensures { let ws = tables.now.words.now in let xs = tables.now.numbers.now in
+        (f : Generator → Float × Float) → ((generator : Generator) (b : Float × Float) → F.post bounds generator b → b ≡ f generator)
+        → result ≡ largest_with start tables.now.layout.generators (outside columns.now
+        (λ g. held_lower f (generator_record ws xs g)) (λ g. held_upper f (generator_record ws xs g))) }
 {
     let mut most = start;
-    let mut cursor = first_generator(words, layout);
-    while cursor.index < layout.generators {
-        let g = generator_of(words, numbers, layout, cursor);
-        let lower = acopf::lower_bound(g.bounded, picked(active, g.p_min, g.q_min));
-        let upper = acopf::upper_bound(g.bounded, picked(active, g.p_max, g.q_max));
-        most = float::maximum(
-            most,
-            positive_violation(point[from + cursor.index], lower, upper),
-        );
-        cursor = next_generator(words, layout, cursor);
+    for (g, generator) in tables.generators() {
+        let (low, high) = bounds(generator);
+        let lower = lower_bound(generator.bounded, low);
+        let upper = upper_bound(generator.bounded, high);
+        most = float::maximum(most, positive_violation(columns[g], lower, upper));
     }
     most
 }
 
-pub(crate) fn variable_bounds(words: &[u32], numbers: &[f64], point: &[f64], layout: Layout) -> f64
-    requires { Ready words.now numbers.now point.now layout }
-    ensures { result ≡ variable_bounds words.now numbers.now point.now }
+pub(crate) fn variable_bounds(candidate: &Candidate) -> f64
+    ensures { result ≡ variable_bounds candidate.now.tables.words.now candidate.now.tables.numbers.now candidate.now.point.now }
 {
-    let n = layout.buses;
-    let k = layout.generators;
-    let va = free_bounds(point, 0, n, 0.0);
-    let vm = vm_bounds(words, numbers, point, layout, va);
-    let pg = generator_bounds(words, numbers, point, layout, true, 2 * n, vm);
-    let qg = generator_bounds(words, numbers, point, layout, false, 2 * n + k, pg);
-    let from = 2 * n + 2 * k;
-    free_bounds(point, from, point.len() - from, qg)
+    let tables = &candidate.tables;
+    let n = tables.layout.buses;
+    let k = tables.layout.generators;
+    let point = candidate.point;
+    let va = free_bounds(&point[..n], 0.0);
+    let vm = vm_bounds(tables, &point[n..2 * n], va);
+    let pg_columns = &point[2 * n..2 * n + k];
+    let pg = generator_bounds(tables, pg_columns, |g| (g.p_min, g.p_max), vm);
+    let qg_columns = &point[2 * n + k..2 * n + 2 * k];
+    let qg = generator_bounds(tables, qg_columns, |g| (g.q_min, g.q_max), pg);
+    free_bounds(&point[2 * n + 2 * k..], qg)
 }

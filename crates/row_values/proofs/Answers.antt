@@ -1,44 +1,41 @@
 -- From places to the model: a file that was gone through has the values, the faults and the refusal that Answer says.
-use mathlib.Core.Path.{◌≡◌, refl, ap, ap₂, sym, subst, ◌∙◌}
+use mathlib.Core.Path.{◌≡◌, refl, ap, ap₂, sym, ◌∙◌}
 use mathlib.Core.List.{List, [], ◌∷◌, ◌++◌}
 use mathlib.Core.Bool.{Bool, true, false}
 use Prim.Native.Nat.{ℕ, zero, suc, ◌+◌, ◌≤◌}
 use native.Mathlib.Omega.{arith}
-use lib.ListN.{length, take, drop, length-map}
-use lib.Seq.{length-take-le}
-use lib.Dec.{leb, eqb}
+use lib.ListN.{length, length-map}
+use lib.Dec.{leb}
 use lib.Ieee.{Float, binary64, to_bits}
-use borrow.Author.Tests.{leb-true, leb-false, le-leb, ne_eqb}
-use Rattle.base.specs.declared.Fault.{Fault}
-use Rattle.base.specs.Fault.{fault, clear, unless, or_else}
-use Rattle.base.specs.Refusal.{POINT, MODEL}
-use Rattle.base.proofs.Firsts.{Clear, Proper, or_go, or_stop, or_left, or_right, or_proper}
-use Rattle.float.specs.Number.{zero64}
-use Rattle.nl.specs.declared.Parts.TheVariants.{Stop, Bad}
+use borrow.Author.Tests.{leb-true, leb-false}
+use Rattle.std.specs.Prelude.{None, Result, Ok, Err}
+use Rattle.base.specs.Fault.{Fault}
+use Rattle.base.specs.declared.refusal.Reason.TheVariants as reason
+use Rattle.base.specs.declared.refusal.Refusal.{Refusal}
+use Rattle.base.specs.Fault.{clear, unless, or_else, shown, fault_of}
+use Rattle.base.proofs.Firsts.{Proper, or_go, or_stop, or_proper}
+use Rattle.base.proofs.Refusals.{shown_number, link_err, link_ok}
+use Rattle.nl.specs.declared.reader.WrongWord.{WrongWord}
 use Rattle.nl.specs.Expr.{Expr, Terms, none, more, count}
 use Rattle.nl.specs.File.{Model}
+use Rattle.nl.specs.Finder.{refusal_of}
+use Rattle.lists.specs.Finite.{point_fault}
+use Rattle.lists.proofs.Point.{length_place}
 use Rattle.model_reading.specs.declared.Counts.{Counts}
-use Rattle.model_reading.specs.declared.FileLayout.TheVariants.{Passed, Failed}
-use Rattle.model_reading.specs.Parse.{Parsed, parse_many, part}
+use Rattle.model_reading.specs.declared.FileLayout.{FileLayout}
+use Rattle.model_reading.specs.Parse.{Parsed, parse_many}
 use Rattle.model_reading.specs.Place.{size, place_of, rows_at, objective_at}
-use Rattle.model_reading.specs.Reading.{shared_limit, file_layout, model_at, Reading, yields, wrong, reading}
-use Rattle.model_reading.specs.Counts.{counts_of, row_counts}
+use Rattle.model_reading.specs.Reading.{shared_limit, file_layout, Reading, yields, wrong, reading}
+use Rattle.model_reading.specs.Counts.{counts_of, row_counts, counts_or_none}
 use Rattle.model_reading.proofs.Standing.{Standing}
-use Rattle.model_reading.proofs.Reading.{ParsedAs, layout_sound}
+use Rattle.model_reading.proofs.Reading.{model_of, ParsedAs, layout_sound}
 use Rattle.model_reading.proofs.RowCounts.{counts_wrong, counts_yield, counts_size}
 use Rattle.expression.specs.Value.{value, values_of, in_range, patterns}
-use Rattle.row_values.specs.declared.RowValues.{RowValues}
 use Rattle.row_values.specs.declared.scan.File.{File}
-use Rattle.row_values.specs.declared.scan.FileScan.{FileScan}
-use Rattle.row_values.specs.declared.scan.FileScan.TheVariants as file
-use Rattle.row_values.specs.declared.scan.Scan.{Scan}
-use Rattle.row_values.specs.declared.scan.Scan.TheVariants as scanned
-use Rattle.lists.specs.Finite.{point_fault}
-use Rattle.row_values.specs.Answer.{value_fault, shared_values, shared_fault, rows_fault, values_fault, size_fault, room_fault, refusal, all_shared, all_rows, objective_value, refused_by, row_values, shared_after, rows_after}
-use Rattle.row_values.specs.Answer.{room_of}
-use Rattle.row_values.specs.internal.Run.{terms_at, part_value, part_fault, shared_pass, rows_pass, RowsScanned, rows_of, Writable, FileRun, FileScanned, length_fault, Settled}
+use Rattle.row_values.specs.Answer.{value_fault, shared_values, shared_fault, rows_fault, values_fault, size_fault, room_of, room_fault, refusal, all_shared, all_rows, objective_value}
+use Rattle.row_values.specs.internal.Run.{part_value, part_fault, shared_pass, rows_pass, rows_of, FileRun, first_refusal, Accepted}
 use Rattle.row_values.proofs.Passes.{refused_proper}
-use Rattle.row_values.proofs.Refusals.{has_room}
+use Rattle.row_values.proofs.Room.{has_room}
 
 -- ---- how many
 
@@ -65,24 +62,24 @@ module _ (ws : List ℕ) (xs point : List Float) where
   rows_standing values none at h = refl
   rows_standing values (more e ts) at h = rw h.0 (ap (or_else (value_fault point values at e)) (rows_standing values ts (at + 1 + size e) h.1))
 
-  module _ (columns n rows at objective extra : ℕ) (R : ParsedAs ws (patterns xs) columns n rows at objective extra) where
+  module _ (columns : ℕ) (l : FileLayout) (P : ParsedAs ws (patterns xs) columns l) where
     abbrev M : Model
-    M = model_at ws (patterns xs) n rows at objective
+    M = model_of ws (patterns xs) l
 
     abbrev values : List Float
     values = shared_values point [] M.shared
 
-    rows_place : at ≡ rows_at M
-    rows_place = R.rows_at_is ∙ ap (λ k. place_of k 0 M.shared) (sym R.shared_count)
+    rows_place : l.rows_at ≡ rows_at M
+    rows_place = P.rows_at_is ∙ ap (λ k. place_of k 0 M.shared) (sym P.shared_count)
 
-    objective_place : objective ≡ objective_at M
-    objective_place = R.objective_at_is ∙ ap₂ (λ k p. place_of k p M.rows) (sym R.rows_count) rows_place
+    objective_place : l.objective_at ≡ objective_at M
+    objective_place = P.objective_at_is ∙ ap₂ (λ k p. place_of k p M.rows) (sym P.rows_count) rows_place
 
-    faults_are : or_else (shared_pass ws xs point n 0 []) (or_else (rows_pass ws xs point values rows at) (part_fault ws xs point values objective)) ≡ values_fault point M
+    faults_are : or_else (shared_pass ws xs point l.shared 0 []) (or_else (rows_pass ws xs point values l.rows l.rows_at) (part_fault ws xs point values l.objective_at)) ≡ values_fault point M
     unfolding values_fault
     faults_are =
-        let a = ap (λ k. shared_pass ws xs point k 0 []) (sym R.shared_count) ∙ shared_standing M.shared 0 [] R.shared_stand in
-        let b = ap (λ k. rows_pass ws xs point values k at) (sym R.rows_count) ∙ rows_standing values M.rows at R.rows_stand ∙ ap (λ p. rows_fault point p values M.rows) rows_place in
+        let a = ap (λ k. shared_pass ws xs point k 0 []) (sym P.shared_count) ∙ shared_standing M.shared 0 [] P.shared_stand in
+        let b = ap (λ k. rows_pass ws xs point values k l.rows_at) (sym P.rows_count) ∙ rows_standing values M.rows l.rows_at P.rows_stand ∙ ap (λ p. rows_fault point p values M.rows) rows_place in
         let c = ap (λ p. value_fault point values p M.objective) objective_place in
         ap₂ or_else a (ap₂ or_else b c)
 
@@ -92,148 +89,119 @@ module _ (ws : List ℕ) (xs point : List Float) where
     abbrev R : Reading
     R = reading ws (patterns xs) columns
 
-    abbrev counts : Counts
+    abbrev counts : Result Counts Refusal
     counts = row_counts ws (length xs) columns
 
     as_many : length (patterns xs) ≡ length xs
     as_many = length-map xs (to_bits binary64)
 
-    read_passed : (n rows at objective extra : ℕ) → file_layout ws (length xs) columns ≡ Passed n rows at objective extra → R ≡ yields (model_at ws (patterns xs) n rows at objective)
+    read_passed : (l : FileLayout) → file_layout ws (length xs) columns ≡ Ok l → R ≡ yields (model_of ws (patterns xs) l)
     unfolding reading
-    read_passed n rows at objective extra e = rw (as_many, e)
+    read_passed l e = rw (as_many, e)
 
-    read_failed : (p : ℕ) → file_layout ws (length xs) columns ≡ Failed p → R ≡ wrong p
-    unfolding reading
-    read_failed p e = rw (as_many, e)
-
-    module _ (lent_shared lent_rows : ℕ) where
+    module _ (lent : Counts) where
       abbrev refuses : Fault
-      refuses = refused_by ws xs columns point lent_shared lent_rows
+      refuses = first_refusal ws xs columns point lent
 
       -- 14 and 19 of what is read
       abbrev values_of_read : Reading → Fault
       values_of_read (wrong p) = clear
       values_of_read (yields N) = values_fault point N
 
-      abbrev in_order : Counts → Reading → Fault
-      in_order c r = or_else c.fault (or_else (room_of c.shared c.rows lent_shared lent_rows) (or_else (point_fault point columns) (values_of_read r)))
+      abbrev after_counts : Counts → Reading → Fault
+      after_counts c r = or_else (room_of c.shared c.rows lent.shared lent.rows) (or_else (point_fault point columns) (values_of_read r))
 
-      by_counts : refuses ≡ in_order counts R
+      by_counts : refuses ≡ or_else (fault_of counts) (after_counts (counts_or_none counts) R)
       unfolding refusal or_else unless
       by_counts = go R refl
         where
           same : row_counts ws (length (patterns xs)) columns ≡ counts
           same = ap (λ k. row_counts ws k columns) as_many
 
-          go : (r : Reading) → R ≡ r → refuses ≡ in_order counts R
+          go : (r : Reading) → R ≡ r → refuses ≡ or_else (fault_of counts) (after_counts (counts_or_none counts) R)
           go (wrong p) e = rw (← same, e, counts_wrong ws (patterns xs) columns p e)
           go (yields N) e = sized (leb (count N.shared) shared_limit) refl
             where
-              sized : (b : Bool) → leb (count N.shared) shared_limit ≡ b → refuses ≡ in_order counts R
+              sized : (b : Bool) → leb (count N.shared) shared_limit ≡ b → refuses ≡ or_else (fault_of counts) (after_counts (counts_or_none counts) R)
               sized true h = rw (← same, e, counts_yield ws (patterns xs) columns N e (leb-true (count N.shared) shared_limit h), h)
               sized false h = rw (← same, e, counts_size ws (patterns xs) columns N e (leb-false (count N.shared) shared_limit h), h)
 
-      -- a point of another length: the file's own refusals go before 13
-      length_refuses : (length point ≡ columns → ⊥) → length_fault ws (length xs) columns lent_shared lent_rows ≡ refuses
-      unfolding point_fault or_else unless
-      length_refuses h = sym (by_counts ∙ rw (ne_eqb (length point) columns h))
+      -- 17 and 2
+      pub counts_refuse : (r : Refusal) → counts ≡ Err r → shown r ≡ refuses
+      counts_refuse r e = sym (by_counts ∙ rw e (or_stop (shown r) _ (shown_number r)))
 
-      counts_refuse : (Clear counts.fault → ⊥) → counts.fault ≡ refuses
-      counts_refuse h = sym (by_counts ∙ or_stop counts.fault _ h)
+      pub wrong_refuses : (w : WrongWord) → file_layout ws (length xs) columns ≡ Err w → shown (refusal_of w) ≡ refuses
+      unfolding counts_of
+      wrong_refuses w e = counts_refuse (refusal_of w) (ap counts_of e)
 
-      failed_refuses : (p : ℕ) → file_layout ws (length xs) columns ≡ Failed p → fault MODEL p ≡ refuses
-      unfolding refusal
-      failed_refuses p e = rw (read_failed p e)
+      module _ (c : Counts) (e : counts ≡ Ok c) where
+        passed_counts : refuses ≡ after_counts c R
+        passed_counts = by_counts ∙ rw e (or_go clear _ refl)
 
-      module _ (n rows at objective extra : ℕ) (e : file_layout ws (length xs) columns ≡ Passed n rows at objective extra) (h : n ≤ shared_limit) where
-        abbrev N : Model
-        N = model_at ws (patterns xs) n rows at objective
+        -- 12
+        pub room_refuses : (r : Refusal) → shown r ≡ room_of c.shared c.rows lent.shared lent.rows → shown r ≡ refuses
+        room_refuses r h = link_err refuses _ _ r passed_counts h
 
-        counts_pass : counts ≡ record { fault = clear; shared = n; rows = rows }
-        unfolding counts_of
-        counts_pass = ap counts_of e ∙ rw (le-leb n shared_limit h)
+        module _ (h : clear ≡ room_of c.shared c.rows lent.shared lent.rows) where
+          passed_room : refuses ≡ or_else (point_fault point columns) (values_of_read R)
+          passed_room = link_ok refuses _ _ passed_counts h
 
-        worked_refuses : (f : Fault) → f ≡ values_fault point N → or_else (room_of n rows lent_shared lent_rows) (or_else (point_fault point columns) f) ≡ refuses
-        worked_refuses f p =
-            sym (by_counts ∙ ap₂ in_order counts_pass (read_passed n rows at objective extra e) ∙ or_go clear _ refl
-            ∙ ap (λ y. or_else (room_of n rows lent_shared lent_rows) (or_else (point_fault point columns) y)) (sym p))
+          -- 13
+          pub point_refuses : (r : Refusal) → shown r ≡ point_fault point columns → shown r ≡ refuses
+          point_refuses r k = link_err refuses _ _ r passed_room k
 
--- ---- the ways out of `settled`
+          pub length_refuses : (length point ≡ columns → ⊥) → shown (record { reason = reason.Point; place = columns }) ≡ refuses
+          length_refuses n = point_refuses (record { reason = reason.Point; place = columns }) (sym (length_place point columns n))
 
-module _ (ws : List ℕ) (xs : List Float) (columns : ℕ) (point : List Float) (lent_shared lent_rows : ℕ) (array kept : List Float) where
-  refused_settled : (f : File) (g : Fault) → f.fault ≡ g → g ≡ refused_by ws xs columns point lent_shared lent_rows → (Clear g → ⊥) → Settled ws xs columns point lent_shared lent_rows array kept f
-  refused_settled f g e h k = record { refuses = e ∙ h; accepts = λ z. absurd (k (ap (λ x. x.number) (sym e) ∙ z)) }
+          pub passed_point : clear ≡ point_fault point columns → refuses ≡ values_of_read R
+          passed_point k = link_ok refuses _ _ passed_room k
 
-  pub length_settled : (f : File) (g : Fault) → (length point ≡ columns → ⊥) → g ≡ length_fault ws (length xs) columns lent_shared lent_rows → f.fault ≡ g
-      → Settled ws xs columns point lent_shared lent_rows array kept f
-  length_settled f g h e k =
-      let c = row_counts ws (length xs) columns in
-      let room = room_of c.shared c.rows lent_shared lent_rows in
-      refused_settled f (length_fault ws (length xs) columns lent_shared lent_rows) (k ∙ e) (length_refuses ws xs point columns lent_shared lent_rows h)
-      (λ z. omega (arith, or_right room (fault POINT columns) (or_right c.fault (or_else room (fault POINT columns)) z)))
+-- ---- a file that was gone through
 
-  module _ (l : length point ≡ columns) (before : List Float) (s : FileScan) (S : FileScanned ws xs point array before kept s) where
-    pub failed_settled : (f : File) (p : ℕ) → s ≡ file.Failed p → f.fault ≡ fault MODEL p → Settled ws xs columns point lent_shared lent_rows array kept f
-    failed_settled f p q k =
-        let e : file_layout ws (length xs) (length point) ≡ Failed p = subst (FileScanned ws xs point array before kept) q S in
-        refused_settled f (fault MODEL p) k (failed_refuses ws xs point columns lent_shared lent_rows p (ap (file_layout ws (length xs)) (sym l) ∙ e)) (λ z. omega arith)
+module _ (ws : List ℕ) (xs : List Float) (columns : ℕ) (point : List Float) (lent : Counts) (array before kept : List Float) (l : length point ≡ columns)
+    (f : File) (F : FileRun ws xs point array before kept f) where
+  abbrev layout : FileLayout
+  layout = record { shared = f.counts.shared; rows = f.counts.rows; rows_at = f.rows_from.at; objective_at = F.objective_at; extra = None }
 
-    pub full_settled : (f : File) (c : Counts) → s ≡ file.Full → c ≡ row_counts ws (length xs) columns → f.fault ≡ c.fault → Settled ws xs columns point lent_shared lent_rows array kept f
-    full_settled f c q e k =
-        let h : Clear (row_counts ws (length xs) (length point)).fault → ⊥ = subst (FileScanned ws xs point array before kept) q S in
-        let n : Clear (row_counts ws (length xs) columns).fault → ⊥ = rw l at h in
-        refused_settled f (row_counts ws (length xs) columns).fault (k ∙ ap (λ x. x.fault) e) (counts_refuse ws xs point columns lent_shared lent_rows n) n
+  reads : file_layout ws (length xs) columns ≡ Ok layout
+  reads = rw l at F.reads
 
-    pub worked_settled : (f : File) (late : Fault) → s ≡ file.Worked f → late ≡ or_else (room_of f.shared f.rows lent_shared lent_rows) (or_else (point_fault point columns) f.fault)
-        → Settled ws xs columns point lent_shared lent_rows array kept
-        (record { shared = f.shared; rows = f.rows; rows_at = f.rows_at; rows_next = f.rows_next; objective = f.objective; fault = late })
-    worked_settled f late q e =
-        let F : FileRun ws xs point array before kept f = subst (FileScanned ws xs point array before kept) q S in
-        let passed = ap (file_layout ws (length xs)) (sym l) ∙ F.reads in
-        let s = layout_sound ws (patterns xs) columns f.shared f.rows f.rows_at F.objective_at_is F.extra
-        (ap (λ k. file_layout ws k columns) (as_many ws xs point columns) ∙ passed) in
-        let faults =
-        F.faults ∙ ap (λ v. or_else (shared_pass ws xs point f.shared 0 []) (or_else (rows_pass ws xs point v f.rows f.rows_at) (part_fault ws xs point v F.objective_at_is)))
-        F.shared_are
-        ∙ faults_are ws xs point columns f.shared f.rows f.rows_at F.objective_at_is F.extra s in
-        let y = read_passed ws xs point columns f.shared f.rows f.rows_at F.objective_at_is F.extra passed in
-        let w = F.rows_are in
-        record {
-          refuses = e ∙ worked_refuses ws xs point columns lent_shared lent_rows f.shared f.rows f.rows_at F.objective_at_is F.extra passed F.fits f.fault faults;
-          accepts = λ z.
-              let room = has_room f.shared f.rows lent_shared lent_rows (or_left (room_of f.shared f.rows lent_shared lent_rows) (or_else (point_fault point columns) f.fault) (rw e at z)) in (
-                room.0,
-                record {
-                  fits = F.fits;
-                  shared_are = F.shared_are ∙ sym (ap (all_shared point) y);
-                  rows_are = ap (λ v. rows_of ws xs point v f) F.shared_are ∙ sym (ap (all_rows point) y);
-                  writable = record { fits = room.1; its_kept = w.its_kept; at = w.at; next = w.next; start = w.start; end = w.end; reads = w.reads };
-                  is = F.is ∙ ap (λ v. part_value ws xs point v F.objective_at_is) F.shared_are ∙ sym (ap (objective_value point) y);
-                },
-              );
-        }
+  pub counts_pass : row_counts ws (length xs) columns ≡ Ok f.counts
+  unfolding counts_of
+  counts_pass = ap counts_of reads
 
--- ---- the rows, gone through again
+  its_reading : reading ws (patterns xs) columns ≡ yields (model_of ws (patterns xs) layout)
+  its_reading = read_passed ws xs point columns layout reads
 
--- the second time as many rows are read as the first time
-pub rows_again : (ws : List ℕ) (xs point values : List Float) (f : File) (kept before after : List Float) (s : Scan)
-    → Writable ws xs point values f kept (length before) → RowsScanned ws xs point values f.rows_at f.rows_next before after s
-    → after ≡ rows_of ws xs point values f ++ drop f.rows before
-rows_again ws xs point values f kept before after (scanned.Stop r) w p =
-    let e : Stop r.count r.at r.next p.start p.end ≡ Stop f.rows w.at w.next w.start w.end = sym p.reads ∙ w.reads in
-    let z : r.count ≡ f.rows = cc in
-    let h : r.count ≤ length before = omega (arith, w.fits) in
-    p.are h ∙ ap (λ n. values_of point values (terms_at ws xs point n f.rows_at) ++ drop n before) z
-rows_again ws xs point values f kept before after (scanned.Bad q) w p =
-    let e : Bad q ≡ Stop f.rows w.at w.next w.start w.end = sym p ∙ w.reads in
-    let z : ◌≡◌ {A = ℕ} 0 1 = cc in
-    absurd (omega arith)
-rows_again ws xs point values f kept before after scanned.Full w p = absurd p
+  verdict_is : fault_of f.verdict ≡ values_of_read ws xs point columns lent (reading ws (patterns xs) columns)
+  verdict_is =
+      let parsed = layout_sound ws (patterns xs) columns layout (ap (λ k. file_layout ws k columns) (as_many ws xs point columns) ∙ reads) in
+      F.faults
+      ∙ ap (λ v. or_else (shared_pass ws xs point f.counts.shared 0 []) (or_else (rows_pass ws xs point v f.counts.rows f.rows_from.at) (part_fault ws xs point v F.objective_at))) F.shared_are
+      ∙ faults_are ws xs point columns layout parsed ∙ ap (values_of_read ws xs point columns lent) (sym its_reading)
 
-pub rows_kept : (ws : List ℕ) (xs point values : List Float) (f : File) (kept before after : List Float)
-    → Writable ws xs point values f kept (length before) → f.rows ≤ length kept → after ≡ take f.rows kept ++ drop f.rows before
-    → after ≡ rows_of ws xs point values f ++ drop f.rows before
-rows_kept ws xs point values f kept before after w h e = e ∙ ap (λ l. l ++ drop f.rows before) (w.its_kept h)
+  module _ (room : clear ≡ room_of f.counts.shared f.counts.rows lent.shared lent.rows) (finite : clear ≡ point_fault point columns) where
+    all_refuses : first_refusal ws xs columns point lent ≡ fault_of f.verdict
+    all_refuses = passed_point ws xs point columns lent f.counts counts_pass room finite ∙ sym verdict_is
+
+    pub verdict_refuses : (r : Refusal) → f.verdict ≡ Err r → shown r ≡ first_refusal ws xs columns point lent
+    verdict_refuses r e = sym (all_refuses ∙ ap (λ v. fault_of v) e)
+
+    pub accepts : f.verdict ≡ Ok tt
+        → (clear ≡ first_refusal ws xs columns point lent) × (f.counts.shared ≤ lent.shared) × Accepted ws xs columns point array kept lent.rows f
+    accepts e =
+        let fits = has_room f.counts.shared f.counts.rows lent.shared lent.rows (ap (λ (x : Fault). x.number) (sym room)) in
+        let w = F.rows_are in (
+          sym (all_refuses ∙ ap (λ v. fault_of v) e),
+          fits.0,
+          record {
+            fits = F.fits;
+            shared_are = F.shared_are ∙ sym (ap (all_shared point) its_reading);
+            rows_are = ap (λ v. rows_of ws xs point v f) F.shared_are ∙ sym (ap (all_rows point) its_reading);
+            writable = record { fits = fits.1; its_kept = w.its_kept; end = w.end; found = w.found; reads = w.reads };
+            is = F.is ∙ ap (λ v. part_value ws xs point v F.objective_at) F.shared_are ∙ sym (ap (objective_value point) its_reading);
+          },
+        )
 
 -- ---- the answer
 
@@ -249,32 +217,3 @@ refusal_proper columns point lent_shared lent_rows (yields M) =
     let values = shared_values point [] M.shared in
     or_proper (size_fault M) _ (or_proper (room_fault lent_shared lent_rows M) _ (or_proper (point_fault point columns) _
     (or_proper (shared_fault point 0 [] M.shared) _ (or_proper (rows_fault point _ values M.rows) _ (value_proper point values _ M.objective)))))
-
-module _ (ws : List ℕ) (xs : List Float) (columns : ℕ) (point shared rows : List Float) where
-  abbrev F : Fault
-  F = refused_by ws xs columns point (length shared) (length rows)
-
-  abbrev read : Reading
-  read = reading ws (patterns xs) columns
-
-  -- what the contract says of the answer and of the two lists
-  abbrev pub Answered : RowValues → List Float → List Float → Type 0
-  Answered r shared_now rows_now =
-      (r ≡ row_values ws xs columns point (length shared) (length rows)) × (shared_now ≡ shared_after ws xs columns point shared rows) × (rows_now ≡ rows_after ws xs columns point shared rows)
-
-  module _ (array kept : List Float) (f : File) (s : Settled ws xs columns point (length shared) (length rows) array kept f) where
-    pub refused_answer : (r : RowValues) → (Clear f.fault → ⊥) → r ≡ record { fault = f.fault; objective = zero64; shared = 0; rows = 0 } → Answered r shared rows
-    refused_answer r h e =
-        let n : eqb F.number 0 ≡ false = ne_eqb F.number 0 (λ z. h (ap (λ x. x.number) s.refuses ∙ z)) in
-        (e ∙ rw (s.refuses, n), rw n, rw n)
-
-    pub accepted_answer : (shared_now rows_now : List Float) → Clear f.fault → length array ≡ shared_limit → shared_now ≡ take f.shared array ++ drop f.shared shared
-        → rows_now ≡ rows_of ws xs point (take f.shared array) f ++ drop f.rows rows
-        → Answered (record { fault = clear; objective = f.objective; shared = f.shared; rows = f.rows }) shared_now rows_now
-    accepted_answer shared_now rows_now c l p q =
-        let a = (s.accepts c).1 in
-        let z : F ≡ clear = refusal_proper columns point (length shared) (length rows) read (ap (λ x. x.number) (sym s.refuses) ∙ c) in
-        let m : f.shared ≡ length (all_shared point read) = sym (length-take-le f.shared array (omega (arith, a.fits))) ∙ ap length a.shared_are in
-        let n : f.rows ≡ length (all_rows point read) =
-        sym (length_values point _ (terms_at ws xs point f.rows f.rows_at) ∙ count_many (part ws (patterns xs)) f.rows f.rows_at) ∙ ap length a.rows_are in
-        (rw (z, a.is, m, n), p ∙ rw (z, ← m, a.shared_are), q ∙ rw (z, ← n, a.rows_are))

@@ -1,5 +1,5 @@
 pub mod Passes
 pub mod Runs
 pub mod Files
-pub mod Refusals
+pub mod Room
 pub mod Answers

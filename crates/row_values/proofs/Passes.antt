@@ -1,23 +1,26 @@
 -- One part: its fault by what was worked out, and its value and fault by its place. And what follows where there are too many shared parts.
-use mathlib.Core.Path.{◌≡◌, ap, sym, ◌∙◌}
+use mathlib.Core.Path.{◌≡◌, refl, ap, sym, ◌∙◌}
 use mathlib.Core.List.{List}
-use mathlib.Core.Bool.{Bool, true, false, cond, not}
+use mathlib.Core.Bool.{Bool, true, false, cond}
 use Prim.Native.Nat.{ℕ, zero, suc, ◌+◌, ◌-◌, ◌≤◌, ◌<◌}
 use native.Mathlib.Omega.{arith}
 use lib.ListN.{length}
 use lib.Ieee.{Float}
-use borrow.Author.Tests.{lt-ltb, not-true, not-false}
-use Rattle.base.specs.declared.Fault.{Fault}
-use Rattle.base.specs.Fault.{fault, clear, unless, or_else}
+use borrow.Author.Tests.{lt-ltb}
+use Rattle.std.specs.Prelude.{Option, Result, Ok, Err, IsErrAnd}
+use Rattle.std.specs.Result.{result_and}
+use Rattle.base.specs.Fault.{Fault}
+use Rattle.base.specs.declared.refusal.Refusal.{Refusal}
+use Rattle.base.specs.Fault.{fault, clear, unless, or_else, shown, fault_of}
 use Rattle.base.specs.Refusal.{SWING, VALUE}
-use Rattle.base.proofs.Firsts.{Clear, Proper, or_go, or_proper, unless_proper}
+use Rattle.base.proofs.Firsts.{Proper, or_stop, unless_proper}
+use Rattle.base.proofs.Refusals.{shown_number}
 use Rattle.float.specs.Number.{is_finite}
-use Rattle.nl.specs.declared.Read.{Read}
-use Rattle.nl.specs.declared.Read.TheVariants.{Went, Wrong}
-use Rattle.nl.specs.declared.Parts.{Parts}
-use Rattle.nl.specs.declared.Parts.TheVariants.{Stop}
+use Rattle.nl.specs.declared.reader.Cursor.{Cursor}
+use Rattle.nl.specs.declared.reader.Parts.{Parts}
+use Rattle.nl.specs.declared.reader.Span.{Span}
 use Rattle.nl.specs.File.{depth_limit}
-use Rattle.nl.specs.Reader.{read_expr, is_mark, then_parts, read_parts}
+use Rattle.nl.specs.Reader.{Read, stop, after, read_expr, is_mark, read_parts}
 use Rattle.nl.proofs.PartSteps.{mark_inside}
 use Rattle.model_reading.specs.Parse.{part}
 use Rattle.model_reading.specs.Reading.{shared_limit}
@@ -27,28 +30,42 @@ use Rattle.expression.specs.internal.Scan.{Reads, evaluated, worth}
 use Rattle.row_values.specs.Answer.{refused_value, value_fault}
 use Rattle.row_values.specs.internal.Run.{scanned_fault, part_value, part_fault, TooMany}
 
--- ---- the first fault so far, and one part's
+-- ---- the exit of a `?`
 
-module _ (earlier : Fault) (s : Scanned) (at : ℕ) (h : Clear earlier) where
-  pub swings : not s.in_range ≡ true → fault SWING at ≡ or_else earlier (scanned_fault s at)
-  swings r = sym (or_go earlier (scanned_fault s at) h ∙ rw (not-true s.in_range r))
+pub exit_as : {T E : Type 0} (P : Result T E → Type 0) (r : Result T E) (e : E) → IsErrAnd r (λ y. y ≡ e) → P (Err e) → P r
+exit_as P (Ok x) e h p = absurd h
+exit_as P (Err y) e h p = rw h p
 
-  module _ (finite : Bool) (r : not s.in_range ≡ false) (e : finite ≡ is_finite s.value) where
-    pub not_finite : not finite ≡ true → fault VALUE at ≡ or_else earlier (scanned_fault s at)
-    unfolding unless
-    not_finite t = sym (or_go earlier (scanned_fault s at) h ∙ rw (not-false s.in_range r, ← e, not-true finite t))
+-- ---- the first refusal so far, and one part's
 
-    pub spared : not finite ≡ false → clear ≡ or_else earlier (scanned_fault s at)
-    unfolding unless
-    spared t = sym (or_go earlier (scanned_fault s at) h ∙ rw (not-false s.in_range r, ← e, not-false finite t))
+-- 14 refuses, or it does not
+pub swings : (ranged : Bool) (v : Float) (at : ℕ) (r : Refusal) → shown r ≡ unless ranged (fault SWING at) → shown r ≡ refused_value ranged v at
+unfolding unless
+swings true v at r e = absurd (shown_number r (ap (λ (f : Fault). f.number) e))
+swings false v at r e = e
+
+pub spared : (ranged : Bool) (v : Float) (at : ℕ) (f : Fault) → clear ≡ unless ranged (fault SWING at) → f ≡ unless (is_finite v) (fault VALUE at) → f ≡ refused_value ranged v at
+unfolding unless
+spared true v at f e h = h
+spared false v at f e h = absurd (omega (arith, ap (λ (f : Fault). f.number) e))
+
+abbrev pub Verdict : Type 0
+Verdict = Result (Unit {0}) Refusal
+
+-- one verdict after another
+pub then_fault : (v a b : Verdict) (f : Fault) → v ≡ result_and a b → fault_of b ≡ f → fault_of v ≡ or_else (fault_of a) f
+unfolding or_else
+then_fault v (Ok x) b f e h = ap (λ z. fault_of z) e ∙ h
+then_fault v (Err r) b f e h = ap (λ z. fault_of z) e ∙ sym (or_stop (shown r) f (shown_number r))
 
 -- a fault whose number is 0 has place 0
+pub verdict_proper : {A : Type 0} (a : Result A Refusal) → Proper (fault_of a)
+verdict_proper (Ok x) h = refl
+verdict_proper (Err r) h = absurd (shown_number r h)
+
 pub refused_proper : (ranged : Bool) (v : Float) (at : ℕ) → Proper (refused_value ranged v at)
 refused_proper true v at = unless_proper (is_finite v) VALUE at (omega arith)
 refused_proper false v at = λ z. absurd (omega arith)
-
-pub next_proper : (earlier f : Fault) (s : Scanned) (at : ℕ) → f ≡ or_else earlier (scanned_fault s at) → Proper f
-next_proper earlier f s at e = rw e (or_proper earlier (scanned_fault s at) (refused_proper s.in_range s.value at))
 
 module _ (ws : List ℕ) (xs point : List Float) where
   -- ---- a part that was scanned, by its place
@@ -61,7 +78,7 @@ module _ (ws : List ℕ) (xs point : List Float) where
     pub part_value_is : s.value ≡ part_value ws xs point values at
     part_value_is = ap (λ w. w.its) is_part
 
-    pub part_end : s.at ≡ (part ws (patterns xs) at).end
+    pub part_end : s.end.at ≡ (part ws (patterns xs) at).end
     part_end = ap (λ w. w.end) is_part
 
     pub part_fault_is : scanned_fault s at ≡ part_fault ws xs point values at
@@ -70,32 +87,32 @@ module _ (ws : List ℕ) (xs point : List Float) where
 
   -- ---- too many shared parts
 
-  abbrev shared_from : ℕ → ℕ → ℕ → ℕ → ℕ → ℕ → Parts
+  abbrev shared_from : ℕ → ℕ → ℕ → ℕ → Option Span → Read Parts
   shared_from = read_parts ws (length xs) (length point) (λ j. j) 10 shared_limit
 
-  one_more_is : (x : Read) (f : ℕ → ℕ → Parts) → ((a b : ℕ) → TooMany ws xs point (f a b)) → TooMany ws xs point (then_parts x f)
-  one_more_is (Went a b) f h = h a b
-  one_more_is (Wrong q) f h = tt
+  one_more_is : (x : Read Cursor) (f : ℕ → ℕ → Read Parts) → ((a b : ℕ) → TooMany ws xs point (f a b)) → TooMany ws xs point (after x f)
+  one_more_is (Ok c) f h = h c.at c.next
+  one_more_is (Err w) f h = tt
 
-  either : (b : Bool) (p q : Parts) → TooMany ws xs point p → TooMany ws xs point q → TooMany ws xs point (cond b p q)
+  either : (b : Bool) (p q : Read Parts) → TooMany ws xs point p → TooMany ws xs point q → TooMany ws xs point (cond b p q)
   either true p q h k = h
   either false p q h k = k
 
   -- the count never falls
-  counts_up : (n i at k start end : ℕ) → shared_limit < i → TooMany ws xs point (shared_from n i at k start end)
+  counts_up : (n i at k : ℕ) (found : Option Span) → shared_limit < i → TooMany ws xs point (shared_from n i at k found)
   unfolding read_parts
-  counts_up zero i at k start end h = h
-  counts_up (suc n) i at k start end h =
-      either (is_mark ws 10 i at) _ (Stop i at k start end)
-      (one_more_is (read_expr ws (length xs) (length point) i depth_limit (at + 1) k) _ (λ a b. counts_up n (i + 1) a b _ _ (omega arith)))
+  counts_up zero i at k found h = h
+  counts_up (suc n) i at k found h =
+      either (is_mark ws 10 i at) _ (stop i at k found)
+      (one_more_is (read_expr ws (length xs) (length point) i depth_limit (at + 1) k) _ (λ a b. counts_up n (i + 1) a b _ (omega arith)))
       h
 
   -- a shared part begins after as many as may be worked out
-  pub too_many : (i at k start end : ℕ) (ok : Bool) (whole : Parts) → i ≤ at → shared_limit ≤ i → ok ≡ is_mark ws 10 i at → ok ≡ true → whole ≡ shared_from (length ws - i) i at k start end
-      → TooMany ws xs point whole
+  pub too_many : (i at k : ℕ) (found : Option Span) (ok : Bool) (whole : Read Parts) → i ≤ at → shared_limit ≤ i → ok ≡ is_mark ws 10 i at → ok ≡ true
+      → whole ≡ shared_from (length ws - i) i at k found → TooMany ws xs point whole
   unfolding read_parts
-  too_many i at k start end ok whole l h m t w =
+  too_many i at k found ok whole l h m t w =
       let inside = mark_inside ws 10 i at ok m t in
       let z : length ws - i ≡ suc (length ws - (i + 1)) = omega arith in
       rw (w, z, sym m ∙ t)
-      (one_more_is (read_expr ws (length xs) (length point) i depth_limit (at + 1) k) _ (λ a b. counts_up (length ws - (i + 1)) (i + 1) a b _ _ (omega arith)))
+      (one_more_is (read_expr ws (length xs) (length point) i depth_limit (at + 1) k) _ (λ a b. counts_up (length ws - (i + 1)) (i + 1) a b _ (omega arith)))

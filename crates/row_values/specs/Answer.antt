@@ -1,7 +1,8 @@
 -- Document 02 (a): the answer, and what the two lent lists hold after the call.
-use Rattle.std.specs.Prelude.{ℕ, ◌+◌, Bool, cond, List, [], ◌∷◌, ◌++◌, leb, eqb, length, Float}
-use Rattle.base.specs.declared.Fault.{Fault}
-use Rattle.base.specs.Fault.{fault, clear, unless, or_else, Section, section, first_of, left}
+use Rattle.std.specs.Prelude.{ℕ, ◌+◌, Bool, cond, List, [], ◌∷◌, ◌++◌, leb, eqb, length, Result, Ok, Err, Float}
+use Rattle.base.specs.Fault.{Fault}
+use Rattle.base.specs.declared.refusal.Refusal.{Refusal}
+use Rattle.base.specs.Fault.{fault, clear, unless, or_else, Section, section, first_of, left, shown}
 use Rattle.base.specs.Refusal.{SIZE, SHORT, POINT, SWING, MODEL, VALUE}
 use Rattle.float.specs.Number.{is_finite, zero64}
 use Rattle.nl.specs.Expr.{Expr, Terms, none, more, count}
@@ -77,8 +78,15 @@ abbrev pub objective_value : List Float → Reading → Float
 objective_value point (wrong p) = zero64
 objective_value point (yields M) = value point (shared_values point [] M.shared) M.objective
 
+-- an answer: number and place, the objective's value, and how many shared parts and rows have theirs in the lists
+pub record Answer : Type 0 where
+  pub fault : Fault
+  pub objective : Float
+  pub shared : ℕ
+  pub rows : ℕ
+
 -- "A refusal gives number and place, all else 0"
-abbrev pub answered : Fault → Float → ℕ → ℕ → RowValues
+abbrev pub answered : Fault → Float → ℕ → ℕ → Answer
 answered f objective shared rows = record {
   fault = f;
   objective = cond (eqb f.number 0) objective zero64;
@@ -86,7 +94,12 @@ answered f objective shared rows = record {
   rows = cond (eqb f.number 0) rows 0;
 }
 
-abbrev pub answer : Fault → List Float → Reading → RowValues
+-- as what is returned says it
+abbrev pub answer_of : Result RowValues Refusal → Answer
+answer_of (Ok v) = record { fault = clear; objective = v.objective; shared = v.shared; rows = v.rows }
+answer_of (Err r) = record { fault = shown r; objective = zero64; shared = 0; rows = 0 }
+
+abbrev pub answer : Fault → List Float → Reading → Answer
 answer f point r = answered f (objective_value point r) (length (all_shared point r)) (length (all_rows point r))
 
 -- of words, constants, a number of columns and a point
@@ -95,7 +108,7 @@ module _ (ws : List ℕ) (xs : List Float) (columns : ℕ) (point : List Float) 
   abbrev pub refused_by : ℕ → ℕ → Fault
   refused_by lent_shared lent_rows = refusal columns point lent_shared lent_rows (reading ws (patterns xs) columns)
 
-  abbrev pub row_values : ℕ → ℕ → RowValues
+  abbrev pub row_values : ℕ → ℕ → Answer
   row_values lent_shared lent_rows = answer (refused_by lent_shared lent_rows) point (reading ws (patterns xs) columns)
 
   -- what the two lists hold after the call, from what they held before

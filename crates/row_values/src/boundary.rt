@@ -1,11 +1,12 @@
 // Row values across the C boundary: each function answers one number of the answer and leaves the lent lists as `row_values` does.
 ghost use Rattle.std.specs.Prelude.{◌≡◌, length};
 ghost use Rattle.base.specs.Fault.{packed};
-ghost use Rattle.model_reading.specs.Counts.{row_counts};
+ghost use Rattle.model_reading.specs.Counts.{row_counts, counts_or_none};
 ghost use Rattle.row_values.specs.Answer.{row_values, shared_after, rows_after};
 
 use crate::row_values;
 use model_reading::row_counts;
+use nl::ModelFile;
 
 // The refusal's number times 2 to the power 32, plus its place, which is capped.
 #[unsafe(no_mangle)]
@@ -24,7 +25,7 @@ pub extern "C" fn fervoulk_row_values(
         × (rows.new ≡ rows_after ws xs columns x before before_rows) }
 {
     let answer = row_values(words, constants, columns, point, shared, rows);
-    base::packed(answer.fault)
+    base::packed(answer)
 }
 
 // The objective's value, without the objective constant.
@@ -44,23 +45,31 @@ pub extern "C" fn fervoulk_row_values_objective(
         × (rows.new ≡ rows_after ws xs columns x before before_rows) }
 {
     let answer = row_values(words, constants, columns, point, shared, rows);
-    answer.objective
+    answer.map_or(0.0, |values| values.objective)
 }
 
 // How many shared parts a model file has; 0 where 17 or 2 refuses it.
 #[unsafe(no_mangle)]
 pub extern "C" fn fervoulk_shared_count(words: &[u32], constants: usize, columns: usize) -> usize
-    ensures { result ≡ (row_counts words.now constants columns).shared }
+    ensures { result ≡ (counts_or_none (row_counts words.now constants columns)).shared }
 {
-    let counts = row_counts(words, constants, columns);
-    counts.shared
+    let file = ModelFile {
+        words,
+        constants,
+        columns,
+    };
+    row_counts(&file).map_or(0, |counts| counts.shared)
 }
 
 // How many rows it has; 0 likewise.
 #[unsafe(no_mangle)]
 pub extern "C" fn fervoulk_row_count(words: &[u32], constants: usize, columns: usize) -> usize
-    ensures { result ≡ (row_counts words.now constants columns).rows }
+    ensures { result ≡ (counts_or_none (row_counts words.now constants columns)).rows }
 {
-    let counts = row_counts(words, constants, columns);
-    counts.rows
+    let file = ModelFile {
+        words,
+        constants,
+        columns,
+    };
+    row_counts(&file).map_or(0, |counts| counts.rows)
 }

@@ -1,82 +1,79 @@
-// Shared parts, rows and objective in the order of the file, each read and worked out in one go. The first fault of a value is kept, and
+// Shared parts, rows and objective in the order of the file, each read and worked out in one go. The first refusal of a value is kept, and
 // reading goes on, because a wrong word further on is refused before it.
 ghost use Rattle.std.specs.Prelude.{◌≡◌, length, set};
-ghost use Rattle.base.specs.Fault.{or_else};
+ghost use Rattle.base.specs.Fault.{or_else, fault_of};
 ghost use Rattle.model_reading.specs.Reading.{shared_limit};
-ghost use Rattle.row_values.specs.internal.Run.{scanned_fault, SharedScanned, RowsScanned};
-ghost use Rattle.row_values.specs.internal.Run.{EndScanned, AfterScanned, FileScanned};
+ghost use Rattle.row_values.specs.declared.scan.ScanError.TheVariants.{Wrong};
+ghost use Rattle.row_values.specs.internal.Run.{scanned_fault, SharedScanned, RowsScanned, EndScanned, FileScanned};
 
-use base::{Fault, refusal};
-use expression::{Scanned, scan};
-use nl::Read;
+use base::{Reason, Refusal};
+use expression::{Evaluation, Scanned};
+use model_reading::Counts;
+use nl::{Cursor, Mark, WrongWord};
 
-// 14 before 19, with the part's beginning word as the place; an earlier fault goes first.
-fn first_fault(earlier: Fault, e: Scanned, at: usize) -> Fault
-    ensures { result ≡ or_else earlier (scanned_fault e at) }
-{
-    if earlier.number != 0 {
-        return earlier;
-    }
-    if !e.in_range {
-        return Fault {
-            number: refusal::SWING,
-            place: at,
-        };
-    }
-    if !float::is_finite(e.value) {
-        return Fault {
-            number: refusal::VALUE,
-            place: at,
-        };
-    }
-    refusal::CLEAR
-}
-
-// Parts of one kind: how many, the place after them, the number of the next constant, and the first fault of their values.
-#[derive(Clone, Copy)]
-pub struct Run {
-    pub count: usize,
-    pub at: usize,
-    pub next: usize,
-    pub fault: Fault,
-}
-
-// All parts of one kind, or the first wrong word; or there are more shared parts than may be worked out.
-#[derive(Clone, Copy)]
-pub enum Scan {
-    Stop(Run),
-    Bad(usize),
+// What leaves a file without values: a wrong word, or more shared parts than may be worked out.
+#[derive(Clone, Copy, Debug, PartialEq, Eq)]
+pub enum ScanError {
+    Wrong(WrongWord),
     Full,
 }
 
-// The shared parts, from the first word on; their values go into the array.
-fn scan_shared(words: &[u32], constants: &[f64], point: &[f64], array: &mut [f64]) -> Scan
-    requires { length array.old ≡ shared_limit }
-    ensures { SharedScanned words.now constants.now point.now array.new result }
+impl From<WrongWord> for ScanError {
+    ghost from_gives = { λ word error. error ≡ Wrong word };
+
+    fn from(word: WrongWord) -> ScanError {
+        ScanError::Wrong(word)
+    }
+}
+
+// 14 before 19, with the part's beginning word as the place; an earlier refusal goes first.
+fn first_fault(earlier: Result<(), Refusal>, part: Scanned, at: usize) -> Result<(), Refusal>
+    ensures { fault_of result ≡ or_else (fault_of earlier) (scanned_fault part at) }
 {
-    let mut at: usize = 0;
-    let mut next: usize = 0;
-    let mut fault = refusal::CLEAR;
-    let mut count: usize = 0;
-    while nl::is_mark(words, 10, count, at) {
+    earlier?;
+    base::unless(part.in_range, Reason::Swing, at)?;
+    base::unless(float::is_finite(part.value), Reason::Value, at)
+}
+
+// Parts of one kind: how many, where they end, and the first refusal of their values.
+#[derive(Clone, Copy, Debug)]
+pub struct Run {
+    pub count: usize,
+    pub end: Cursor,
+    pub verdict: Result<(), Refusal>,
+}
+
+// The shared parts, from the first word on; their values go into the array.
+fn scan_shared(inputs: &Evaluation, array: &mut [f64]) -> Result<Run, ScanError>
+    requires { length array.old ≡ shared_limit }
+    ensures { let e = inputs.now in
+        SharedScanned e.words.now e.constants.now e.point.now array.new result }
+{
+    let file = inputs.file();
+    let mut count = 0;
+    let mut end = Cursor::START;
+    let mut verdict = Ok(());
+    while file.is_mark(Mark::Shared, count, end.at) {
         if array.len() <= count {
-            return Scan::Full;
+            return Err(ScanError::Full);
         }
-        let e = scan(words, at + 1, next, constants, point, &array[..count]);
-        if e.at == 0 {
-            return Scan::Bad(e.next);
-        }
-        fault = first_fault(fault, e, at);
-        array[count] = e.value;
-        at = e.at;
-        next = e.next;
+        let inputs = Evaluation {
+            shared: &array[..count],
+            ..*inputs
+        };
+        let part = inputs.scan(Cursor {
+            at: end.at + 1,
+            ..end
+        })?;
+        verdict = first_fault(verdict, part, end.at);
+        array[count] = part.value;
+        end = part.end;
         count += 1;
     }
-    Scan::Stop(Run {
+    Ok(Run {
         count,
-        at,
-        next,
-        fault,
+        end,
+        verdict,
     })
 }
 
@@ -89,164 +86,90 @@ fn keep(rows: &mut [f64], i: usize, value: f64)
     }
 }
 
-// The rows from `from` on, where `first` is the number of the next constant; their values go to the list, as far as it reaches.
+// The rows from there on; their values go to the list, as far as it reaches.
 pub(crate) fn scan_rows(
-    words: &[u32],
-    constants: &[f64],
-    point: &[f64],
-    shared: &[f64],
-    from: usize,
-    first: usize,
+    inputs: &Evaluation,
+    from: Cursor,
     rows: &mut [f64],
-) -> Scan
-    ensures { RowsScanned words.now constants.now point.now shared.now from first
+) -> Result<Run, WrongWord>
+    ensures { let e = inputs.now in
+        RowsScanned e.words.now e.constants.now e.point.now e.shared.now from.at from.next
         rows.old rows.new result }
 {
-    let mut at = from;
-    let mut next = first;
-    let mut fault = refusal::CLEAR;
-    let mut count: usize = 0;
-    while nl::is_mark(words, 11, count, at) {
-        let e = scan(words, at + 1, next, constants, point, shared);
-        if e.at == 0 {
-            return Scan::Bad(e.next);
-        }
-        fault = first_fault(fault, e, at);
-        keep(rows, count, e.value);
-        at = e.at;
-        next = e.next;
+    let file = inputs.file();
+    let mut count = 0;
+    let mut end = from;
+    let mut verdict = Ok(());
+    while file.is_mark(Mark::Row, count, end.at) {
+        let row = inputs.scan(Cursor {
+            at: end.at + 1,
+            ..end
+        })?;
+        verdict = first_fault(verdict, row, end.at);
+        keep(rows, count, row.value);
+        end = row.end;
         count += 1;
     }
-    Scan::Stop(Run {
+    Ok(Run {
         count,
-        at,
-        next,
-        fault,
+        end,
+        verdict,
     })
 }
 
-// The objective's value and its fault, or the first wrong word.
-#[derive(Clone, Copy)]
-pub enum End {
-    Whole { value: f64, fault: Fault },
-    Wrong(usize),
-}
-
-// The objective at `at`, and the end word.
-fn scan_end(
-    words: &[u32],
-    constants: &[f64],
-    point: &[f64],
-    shared: &[f64],
-    at: usize,
-    k: usize,
-) -> End
-    ensures { EndScanned words.now constants.now point.now shared.now at k result }
+// The objective there, and the end word.
+fn scan_end(inputs: &Evaluation, from: Cursor) -> Result<Scanned, WrongWord>
+    ensures { let e = inputs.now in
+        EndScanned e.words.now e.constants.now e.point.now e.shared.now from.at from.next result }
 {
-    if !nl::is_mark(words, 12, 0, at) {
-        return End::Wrong(at);
+    let file = inputs.file();
+    if !file.is_mark(Mark::Objective, 0, from.at) {
+        return Err(WrongWord { place: from.at });
     }
-    let e = scan(words, at + 1, k, constants, point, shared);
-    if e.at == 0 {
-        return End::Wrong(e.next);
-    }
-    let last = nl::read_last(words, e.at, e.next, constants.len());
-    match last {
-        Read::Wrong(p) => End::Wrong(p),
-        Read::Went {
-            at: _at,
-            next: _next,
-        } => End::Whole {
-            value: e.value,
-            fault: first_fault(refusal::CLEAR, e, at),
-        },
-    }
+    let objective = inputs.scan(Cursor {
+        at: from.at + 1,
+        ..from
+    })?;
+    file.read_last(objective.end)?;
+    Ok(objective)
 }
 
-// How many shared parts and rows a file has, where its rows start and the number of their first constant, the objective's value, and the
-// first fault of a value.
-#[derive(Clone, Copy)]
+// A file that passes reading: how many shared parts and rows it has, where its rows start, the objective's value, and the first refusal
+// of a value.
+#[derive(Clone, Copy, Debug)]
 pub struct File {
-    pub shared: usize,
-    pub rows: usize,
-    pub rows_at: usize,
-    pub rows_next: usize,
+    pub counts: Counts,
+    pub rows_from: Cursor,
     pub objective: f64,
-    pub fault: Fault,
-}
-
-// A file that passes reading, or the first wrong word; or there are more shared parts than may be worked out.
-#[derive(Clone, Copy)]
-pub enum FileScan {
-    Worked(File),
-    Failed(usize),
-    Full,
-}
-
-fn first_of(a: Fault, b: Fault, c: Fault) -> Fault
-    ensures { result ≡ or_else a (or_else b c) }
-{
-    if a.number != 0 {
-        return a;
-    }
-    if b.number != 0 {
-        return b;
-    }
-    c
-}
-
-// Rows and objective, after so many shared parts.
-fn scan_after(
-    words: &[u32],
-    constants: &[f64],
-    point: &[f64],
-    shared: &[f64],
-    run: Run,
-    rows: &mut [f64],
-) -> FileScan
-    ensures { AfterScanned words.now constants.now point.now shared.now run
-        rows.old rows.new result }
-{
-    let s = scan_rows(words, constants, point, shared, run.at, run.next, rows);
-    match s {
-        Scan::Full => FileScan::Full,
-        Scan::Bad(p) => FileScan::Failed(p),
-        Scan::Stop(r) => {
-            let e = scan_end(words, constants, point, shared, r.at, r.next);
-            match e {
-                End::Wrong(p) => FileScan::Failed(p),
-                End::Whole { value, fault } => FileScan::Worked(File {
-                    shared: run.count,
-                    rows: r.count,
-                    rows_at: run.at,
-                    rows_next: run.next,
-                    objective: value,
-                    fault: first_of(run.fault, r.fault, fault),
-                }),
-            }
-        }
-    }
+    pub verdict: Result<(), Refusal>,
 }
 
 // The whole file: the shared parts' values go into the array, the rows' to the list, as far as it reaches.
 pub(crate) fn scan_file(
-    words: &[u32],
-    constants: &[f64],
-    point: &[f64],
+    inputs: &Evaluation,
     array: &mut [f64],
     rows: &mut [f64],
-) -> FileScan
+) -> Result<File, ScanError>
     requires { length array.old ≡ shared_limit }
-    ensures { FileScanned words.now constants.now point.now array.new
+    ensures { let e = inputs.now in
+        FileScanned e.words.now e.constants.now e.point.now array.new
         rows.old rows.new result }
 {
-    let s = scan_shared(words, constants, point, array);
-    match s {
-        Scan::Full => FileScan::Full,
-        Scan::Bad(p) => FileScan::Failed(p),
-        Scan::Stop(run) => {
-            let n = run.count;
-            scan_after(words, constants, point, &array[..n], run, rows)
-        }
-    }
+    let shared = scan_shared(inputs, array)?;
+    let inputs = Evaluation {
+        shared: &array[..shared.count],
+        ..*inputs
+    };
+    let its_rows = scan_rows(&inputs, shared.end, rows)?;
+    let objective = scan_end(&inputs, its_rows.end)?;
+    let earlier = shared.verdict.and(its_rows.verdict);
+    Ok(File {
+        counts: Counts {
+            shared: shared.count,
+            rows: its_rows.count,
+        },
+        rows_from: shared.end,
+        objective: objective.value,
+        verdict: first_fault(earlier, objective, its_rows.end.at),
+    })
 }

@@ -4,7 +4,7 @@
 
 ghost use Rattle.std.specs.Prelude.{◌≡◌, length};
 ghost use Rattle.base.specs.Fault.{packed};
-ghost use Rattle.model_reading.specs.Counts.{row_counts};
+ghost use Rattle.model_reading.specs.Counts.{row_counts, counts_or_none};
 ghost use Rattle.row_values.specs.Answer.{row_values, shared_after, rows_after};
 
 // The refusal's number times 2 to the power 32, plus its place, which is capped.
@@ -48,7 +48,7 @@ pub extern "C" fn fervoulk_row_values_objective(
 // How many shared parts a model file has; 0 where 17 or 2 refuses it.
 #[unsafe(no_mangle)]
 pub extern "C" fn fervoulk_shared_count(words: &[u32], constants: usize, columns: usize) -> usize
-    ensures { result ≡ (row_counts words.now constants columns).shared }
+    ensures { result ≡ (counts_or_none (row_counts words.now constants columns)).shared }
 {
     row_values::fervoulk_shared_count(words, constants, columns)
 }
@@ -56,7 +56,7 @@ pub extern "C" fn fervoulk_shared_count(words: &[u32], constants: usize, columns
 // How many rows it has; 0 likewise.
 #[unsafe(no_mangle)]
 pub extern "C" fn fervoulk_row_count(words: &[u32], constants: usize, columns: usize) -> usize
-    ensures { result ≡ (row_counts words.now constants columns).rows }
+    ensures { result ≡ (counts_or_none (row_counts words.now constants columns)).rows }
 {
     row_values::fervoulk_row_count(words, constants, columns)
 }

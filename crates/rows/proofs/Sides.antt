@@ -1,5 +1,5 @@
 -- Row lower and row upper, section by section.
-use Prim.Native.Nat.{ℕ, zero, suc, ◌+◌, ◌*◌, ◌≤◌}
+use Prim.Native.Nat.{ℕ, zero, suc, ◌+◌, ◌*◌}
 use native.Mathlib.Omega.{arith}
 use mathlib.Core.Path.{◌≡◌, refl, sym, ap, ap₂, ◌∙◌}
 use mathlib.Core.Bool.{Bool, true, false}
@@ -11,16 +11,14 @@ use Rattle.base.proofs.Loops.{Every, AllFrom, every_append, every_table, every_e
 use Rattle.float.specs.Number.{zero64}
 use Rattle.bounds.specs.Bounds.{huge64}
 use Rattle.network.specs.declared.layout.Layout.{Layout}
+use Rattle.network.specs.declared.records.Branch.{Branch}
 use Rattle.network.specs.Layout.{Laid, branch_record}
 use Rattle.network.specs.Network.{buses, generators, branches, references, angled, curved, segments}
 use Rattle.acopf.specs.declared.tallies.Tallies.{Tallies}
 use Rattle.acopf.specs.Rows.{Row, balance_row, p_balance_row, q_balance_row, reference_row, angle_row, rated, thermal_rows, segment_row, segment_rows, rows, row_lower, row_upper}
 use Rattle.acopf.specs.Tallies.{Tallied}
-use Rattle.acopf.proofs.Counts.{lower_rows, upper_rows}
 use Rattle.acopf.proofs.Sizes.{count_rows}
-use Rattle.rows.specs.internal.Bounds.{angle_bound, angle_bounds, row_bounds}
-use Rattle.rows.specs.declared.Side.{Side}
-use Rattle.rows.specs.declared.Side.TheVariants.{Lower, Upper}
+use Rattle.rows.specs.internal.Bounds.{angle_bounds, row_bounds}
 
 -- ---- mapped lists
 
@@ -91,12 +89,12 @@ module _ (ws : List ℕ) (xs : List Float) where
 
     -- ---- a bound: 0 at every balance, `free` at every margin, and the branch's at an angle difference
 
-    module _ (bound : Row → Float) (side : Side) (free : Float) where
+    module _ (bound : Row → Float) (angle_of : Branch → Float) (free : Float) where
       record Sided : Type 0 where
         pub p : (i : ℕ) → bound (p_balance_row ws xs i) ≡ zero64
         pub q : (i : ℕ) → bound (q_balance_row ws xs i) ≡ zero64
         pub reference : (r : ℕ) → bound (reference_row ws xs r) ≡ zero64
-        pub angle : (b : ℕ) → bound (angle_row ws xs b) ≡ angle_bound side (branch_record ws xs b)
+        pub angle : (b : ℕ) → bound (angle_row ws xs b) ≡ angle_of (branch_record ws xs b)
         pub thermal : (b i : ℕ) → Every (λ j r. bound r ≡ free) i (thermal_rows ws xs b)
         pub segment : (g s : ℕ) → bound (segment_row ws xs g s) ≡ free
 
@@ -118,23 +116,23 @@ module _ (ws : List ℕ) (xs : List Float) where
             of_curve : {i : ℕ} (g : ℕ) → Every (λ j r. bound r ≡ free) i (segment_rows ws xs g)
             of_curve g = every_cond (curved ws g) _ (λ e. every_table (segments ws g) _ (λ s m. S.segment g s))
 
-        of_angles : map bound angles ≡ angle_bounds ws xs side layout.branches
+        of_angles : map bound angles ≡ angle_bounds ws xs angle_of layout.branches
         unfolding angle_bounds loop each
         of_angles =
             map_kept bound (branches ws) (angled ws) (angle_row ws xs) ∙ same (branches ws)
-            ∙ ap (λ l. angle_bounds ws xs side l.branches) (sym L.words.is)
+            ∙ ap (λ l. angle_bounds ws xs angle_of l.branches) (sym L.words.is)
           where
-            same : (m : ℕ) → each m (λ b. keep (angled ws b) (bound (angle_row ws xs b))) ≡ angle_bounds ws xs side m
+            same : (m : ℕ) → each m (λ b. keep (angled ws b) (bound (angle_row ws xs b))) ≡ angle_bounds ws xs angle_of m
             same zero = refl
             same (suc m) = ap₂ (λ x y. x ++ y) (same m) (ap (λ x. keep (angled ws m) x) (S.angle m))
 
-        bounds_are : map bound (rows ws xs) ≡ row_bounds ws xs layout tallies side free
+        bounds_are : map bound (rows ws xs) ≡ row_bounds ws xs angle_of layout tallies free
         unfolding row_bounds
         bounds_are =
             ap (map bound) in_three ∙ map-append bound (balances ++ angles) margins
             ∙ ap₂ (λ x y. x ++ y) (map-append bound balances angles ∙ ap₂ (λ x y. x ++ y) of_balances of_angles) of_margins
 
-    lower_sided : Sided (λ r. r.lower) Lower zero64
+    lower_sided : Sided (λ r. r.lower) (λ branch. branch.angle_min) zero64
     unfolding p_balance_row q_balance_row balance_row thermal_rows segment_row
     lower_sided = record {
       p = λ i. refl;
@@ -145,7 +143,7 @@ module _ (ws : List ℕ) (xs : List Float) where
       segment = λ g s. refl;
     }
 
-    upper_sided : Sided (λ r. r.upper) Upper huge64
+    upper_sided : Sided (λ r. r.upper) (λ branch. branch.angle_max) huge64
     unfolding p_balance_row q_balance_row balance_row thermal_rows segment_row
     upper_sided = record {
       p = λ i. refl;
@@ -156,17 +154,10 @@ module _ (ws : List ℕ) (xs : List Float) where
       segment = λ g s. refl;
     }
 
-    pub lower_is : row_lower ws xs ≡ row_bounds ws xs layout tallies Lower zero64
+    pub lower_is : row_lower ws xs ≡ row_bounds ws xs (λ branch. branch.angle_min) layout tallies zero64
     unfolding row_lower
-    lower_is = bounds_are (λ r. r.lower) Lower zero64 lower_sided
+    lower_is = bounds_are (λ r. r.lower) (λ branch. branch.angle_min) zero64 lower_sided
 
-    pub upper_is : row_upper ws xs ≡ row_bounds ws xs layout tallies Upper huge64
+    pub upper_is : row_upper ws xs ≡ row_bounds ws xs (λ branch. branch.angle_max) layout tallies huge64
     unfolding row_upper
-    upper_is = bounds_are (λ r. r.upper) Upper huge64 upper_sided
-
-    -- a list that holds a number a row holds them
-    pub lower_fits : {room : ℕ} → length (rows ws xs) ≤ room → length (row_bounds ws xs layout tallies Lower zero64) ≤ room
-    lower_fits h = omega (arith, ap length lower_is, lower_rows ws xs)
-
-    pub upper_fits : {room : ℕ} → length (rows ws xs) ≤ room → length (row_bounds ws xs layout tallies Upper huge64) ≤ room
-    upper_fits h = omega (arith, ap length upper_is, upper_rows ws xs)
+    upper_is = bounds_are (λ r. r.upper) (λ branch. branch.angle_max) huge64 upper_sided

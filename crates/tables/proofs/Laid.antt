@@ -8,14 +8,13 @@ use lib.ListN.{length}
 use lib.Ieee.{Float}
 use Rattle.base.proofs.Firsts.{Clear, or_left, or_right}
 use Rattle.base.specs.Fault.{or_else}
-use Rattle.base.specs.declared.Fault.{Fault}
+use Rattle.base.specs.Fault.{Fault}
 use Rattle.float.specs.Doubles.{Doubles}
 use Rattle.network.specs.Fault.{fault_count, words_fault, form_fault}
 use Rattle.tables.specs.Fault.{fault_blank, fault_curve, fault_shift, fault_bounds, fault_branches, fault_tables}
 use Rattle.network.specs.declared.layout.Layout.{Layout}
-use Rattle.network.specs.declared.formed.Form.{Form}
-use Rattle.network.specs.Layout.{layout_of, LaidWords, Laid, Formed}
-use Rattle.network.proofs.Forms.{laid_words, laid_form, formed_clear}
+use Rattle.network.specs.Layout.{layout_of, LaidWords, Laid}
+use Rattle.network.proofs.Forms.{laid_words, laid_form}
 
 or_assoc : (f g h : Fault) → or_else (or_else f g) h ≡ or_else f (or_else g h)
 unfolding or_else
@@ -40,7 +39,3 @@ module _ (ws : List ℕ) (xs : List Float) where
   laid h D e =
       let h1 = or_right _ _ h in
       laid_form ws xs (or_left _ _ h) (or_left _ _ h1) (or_left _ _ (or_right _ _ h1)) D e
-
-module _ {ws : List ℕ} where
-  pub formed_tables : {xs : List Float} {r : Form} → Formed ws (fault_tables ws xs) r → Doubles xs → Clear r.fault → Laid ws xs r.layout
-  formed_tables {xs} F D h = let k = formed_clear F h in laid ws xs k D (F.layout k)

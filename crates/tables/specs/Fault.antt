@@ -1,7 +1,7 @@
 -- Document 01, "Numbers a controller shows": refusals 4 to 10 of a network, each with its place, and the order of 1 to 10.
 use Rattle.std.specs.Prelude.{ℕ, ◌+◌, ◌*◌, not, ◌||◌, List, [], ◌∷◌, Float}
 use Rattle.std.specs.Float.Ieee.{lt}
-use Rattle.base.specs.declared.Fault.{Fault}
+use Rattle.base.specs.Fault.{Fault}
 use Rattle.base.specs.Fault.{fault, unless, or_else, first, Section, section, first_of}
 use Rattle.base.specs.Refusal.{WORDS, SIZE, COUNT, BLANK, CURVE, SHIFT, BOUNDS, SPREAD, RATING, SQUARE}
 use Rattle.float.specs.Number.{◌⊗◌, zero64, is_finite}

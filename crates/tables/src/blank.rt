@@ -1,112 +1,67 @@
 // Refusal 4, blank: the first required number that is not finite.
-ghost use Rattle.std.specs.Prelude.{◌≡◌, ◌+◌, ◌*◌, ◌<◌, ◌≤◌, length};
-ghost use Rattle.base.specs.Fault.{or_else, first};
-ghost use Rattle.network.specs.Limits.{point_numbers};
+ghost use Rattle.std.specs.Prelude.{◌≡◌, ◌+◌, ◌-◌, ◌*◌, ◌≤◌, length};
+ghost use Rattle.base.specs.Fault.{fault_of, or_else, first};
+ghost use Rattle.network.specs.Limits.{generator_numbers, point_numbers};
 ghost use Rattle.network.specs.Network.{points, bus_at, generator_at, curve_at, branch_at};
 ghost use Rattle.tables.specs.Fault.{blanks, fault_blank};
-ghost use Rattle.network.specs.Layout.{Laid};
-ghost use Rattle.network.specs.internal.Records.{Standing};
 
-use base::{Fault, refusal};
-use network::{
-    Cursor, Layout, POINT_NUMBERS, branch_start, bus_start, first_generator, generator_of,
-    next_generator,
-};
+use base::{Reason, Refusal};
+use lists::first_non_finite;
+use network::{GENERATOR_NUMBERS, Generator, POINT_NUMBERS, Tables};
 
 // `count` numbers from `at` on.
-fn blanks(numbers: &[f64], at: usize, count: usize) -> Fault
+fn blanks(numbers: &[f64], at: usize, count: usize) -> Result<(), Refusal>
     requires { at + count ≤ length numbers.now }
-    ensures { result ≡ blanks numbers.now at count }
+    ensures { fault_of result ≡ blanks numbers.now at count }
 {
-    let mut j = 0usize;
-    while j < count {
-        if !float::is_finite(numbers[at + j]) {
-            return Fault {
-                number: refusal::BLANK,
-                place: at + j,
-            };
-        }
-        j += 1;
-    }
-    refusal::CLEAR
+    first_non_finite(&numbers[at..at + count], Reason::Blank, at)
 }
 
 // p_d, q_d, g_s and b_s of each bus.
-fn blank_buses(words: &[u32], numbers: &[f64], layout: Layout) -> Fault
-    requires { Laid words.now numbers.now layout }
-    ensures { result ≡ first layout.buses (λ i. blanks numbers.now (bus_at words.now i) 4) }
+fn blank_buses(tables: &Tables) -> Result<(), Refusal>
+    ensures { fault_of result ≡ first tables.now.layout.buses (λ i. blanks tables.now.numbers.now (bus_at tables.now.words.now i) 4) }
 {
-    let mut i = 0usize;
-    while i < layout.buses {
-        let f = blanks(numbers, bus_start(words, layout, i), 4);
-        if f.number != 0 {
-            return f;
-        }
-        i += 1;
+    for i in 0..tables.layout.buses {
+        blanks(tables.numbers, tables.bus_start(i), 4)?;
     }
-    refusal::CLEAR
+    Ok(())
 }
 
-// q, c, c0 and the curve of the generator at the cursor.
-fn blank_generator(words: &[u32], numbers: &[f64], layout: Layout, cursor: Cursor) -> Fault
-    requires { (Laid words.now numbers.now layout) × (Standing words.now layout cursor)
-        × (cursor.index < layout.generators) }
-    ensures { result ≡ or_else (blanks numbers.now (generator_at words.now cursor.index + 4) 3)
-        (blanks numbers.now (curve_at words.now cursor.index)
-        (point_numbers * points words.now cursor.index)) }
+// q, c, c0 and the curve of a generator.
+fn blank_generator(numbers: &[f64], generator: Generator) -> Result<(), Refusal>
+    requires { (generator_numbers ≤ generator.curve) × (generator.curve + point_numbers * generator.points ≤ length numbers.now) }
+    ensures { fault_of result ≡ or_else (blanks numbers.now (generator.curve - generator_numbers + 4) 3)
+        (blanks numbers.now generator.curve (point_numbers * generator.points)) }
 {
-    let f = blanks(numbers, cursor.at + 4, 3);
-    if f.number != 0 {
-        return f;
-    }
-    let g = generator_of(words, numbers, layout, cursor);
-    blanks(numbers, g.curve, POINT_NUMBERS * g.points)
+    blanks(numbers, generator.curve - GENERATOR_NUMBERS + 4, 3)?;
+    blanks(numbers, generator.curve, POINT_NUMBERS * generator.points)
 }
 
-fn blank_generators(words: &[u32], numbers: &[f64], layout: Layout) -> Fault
-    requires { Laid words.now numbers.now layout }
-    ensures { result ≡ first layout.generators (λ g.
-        or_else (blanks numbers.now (generator_at words.now g + 4) 3)
-        (blanks numbers.now (curve_at words.now g) (point_numbers * points words.now g))) }
+fn blank_generators(tables: &Tables) -> Result<(), Refusal>
+    ensures { let ws = tables.now.words.now in let xs = tables.now.numbers.now in
+        fault_of result ≡ first tables.now.layout.generators (λ g.
+        or_else (blanks xs (generator_at ws g + 4) 3) (blanks xs (curve_at ws g) (point_numbers * points ws g))) }
 {
-    let mut cursor = first_generator(words, layout);
-    while cursor.index < layout.generators {
-        let f = blank_generator(words, numbers, layout, cursor);
-        if f.number != 0 {
-            return f;
-        }
-        cursor = next_generator(words, layout, cursor);
+    for (_, generator) in tables.generators() {
+        blank_generator(tables.numbers, generator)?;
     }
-    refusal::CLEAR
+    Ok(())
 }
 
 // g to shift of each branch.
-fn blank_branches(words: &[u32], numbers: &[f64], layout: Layout) -> Fault
-    requires { Laid words.now numbers.now layout }
-    ensures { result ≡ first layout.branches (λ b. blanks numbers.now (branch_at words.now b) 8) }
+fn blank_branches(tables: &Tables) -> Result<(), Refusal>
+    ensures { fault_of result ≡ first tables.now.layout.branches (λ b. blanks tables.now.numbers.now (branch_at tables.now.words.now b) 8) }
 {
-    let mut b = 0usize;
-    while b < layout.branches {
-        let f = blanks(numbers, branch_start(words, layout, b), 8);
-        if f.number != 0 {
-            return f;
-        }
-        b += 1;
+    for b in 0..tables.layout.branches {
+        blanks(tables.numbers, tables.branch_start(b), 8)?;
     }
-    refusal::CLEAR
+    Ok(())
 }
 
-pub(crate) fn blank_fault(words: &[u32], numbers: &[f64], layout: Layout) -> Fault
-    requires { Laid words.now numbers.now layout }
-    ensures { result ≡ fault_blank words.now numbers.now }
+pub(crate) fn blank_fault(tables: &Tables) -> Result<(), Refusal>
+    ensures { fault_of result ≡ fault_blank tables.now.words.now tables.now.numbers.now }
 {
-    let bus = blank_buses(words, numbers, layout);
-    if bus.number != 0 {
-        return bus;
-    }
-    let generator = blank_generators(words, numbers, layout);
-    if generator.number != 0 {
-        return generator;
-    }
-    blank_branches(words, numbers, layout)
+    blank_buses(tables)?;
+    blank_generators(tables)?;
+    blank_branches(tables)
 }

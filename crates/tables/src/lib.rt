@@ -7,4 +7,4 @@ mod curve;
 mod ranges;
 mod tables;
 
-pub use tables::{tables_fault, tables_of};
+pub use tables::tables_of;

@@ -6,34 +6,29 @@ ghost use Rattle.float.specs.Number.{◌⊖◌, zero64, maximum};
 ghost use Rattle.fdlibm.specs.Hypot.{hypotenuse};
 ghost use Rattle.hypot_error.specs.internal.Quick.{far_below};
 
-// 1 - 2^-40, 2^-960 and 2^960.
-const QUICK: [f64; 3] = [
-    f64::from_bits(0x3FEF_FFFF_FFFF_E000),
-    f64::from_bits(0x03F0_0000_0000_0000),
-    f64::from_bits(0x7BF0_0000_0000_0000),
-];
+// 1 - 2^-40.
+const NEARLY: f64 = f64::from_bits(0x3FEF_FFFF_FFFF_E000);
+
+// 2^-960.
+const FLOOR: f64 = f64::from_bits(0x03F0_0000_0000_0000);
+
+// 2^960.
+const CEILING: f64 = f64::from_bits(0x7BF0_0000_0000_0000);
 
 // Whether p and q are far below a rating s: then their hypotenuse is at most s.
 fn far_below(p: f64, q: f64, s: f64) -> bool
     ensures { result ≡ far_below p q s }
 {
-    let most = s * s * QUICK[0];
-    let below = p * p + q * q < most;
-    let above = QUICK[1] < most;
-    let under = most < QUICK[2];
-    below & above & under
+    let most = s * s * NEARLY;
+    p * p + q * q < most && FLOOR < most && most < CEILING
 }
 
 // How far the larger of the apparent powers at a branch's ends is above s_max, and 0 where it is not.
 pub fn violation(p_from: f64, q_from: f64, p_to: f64, q_to: f64, s_max: f64) -> f64
     ensures { result ≡ maximum (maximum (hypotenuse p_from q_from) (hypotenuse p_to q_to) ⊖ s_max) zero64 }
 {
-    if 0.0 < s_max {
-        if far_below(p_from, q_from, s_max) {
-            if far_below(p_to, q_to, s_max) {
-                return 0.0;
-            }
-        }
+    if 0.0 < s_max && far_below(p_from, q_from, s_max) && far_below(p_to, q_to, s_max) {
+        return 0.0;
     }
     let at_from = fdlibm::hypot(p_from, q_from);
     let at_to = fdlibm::hypot(p_to, q_to);

@@ -6,47 +6,23 @@ use native.Mathlib.Omega.{arith}
 use lib.ListN.{length}
 use lib.Ieee.{Float}
 use borrow.Author.Tests.{leb-true, ne_eqb}
-use Rattle.base.specs.declared.Fault.{Fault}
+use Rattle.base.specs.Fault.{Fault}
 use Rattle.base.specs.Fault.{clear, section}
 use Rattle.base.specs.Refusal.{SHORT, TOLERANCE}
 use Rattle.base.specs.Order.{numbers_of}
 use Rattle.base.proofs.Firsts.{Clear, Spans, or_left, unless_true, spans_or, spans_wide}
 use Rattle.base.proofs.Order.{other_number, gives_one, first_gives}
-use Rattle.network.specs.Limits.{most_buses, most_generators}
-use Rattle.network.specs.Network.{buses, branches, columns}
+use Rattle.network.specs.Network.{buses, branches}
 use Rattle.network.specs.declared.layout.Layout.{Layout}
-use Rattle.network.specs.Layout.{LaidWords, Laid}
-use Rattle.acopf.specs.declared.tallies.Tallies.{Tallies}
-use Rattle.acopf.specs.Tallies.{Tallied}
-use Rattle.lists.specs.Finite.{point_fault}
-use Rattle.lists.proofs.Point as by_length
+use Rattle.network.specs.Layout.{Laid}
 use Rattle.acopf.specs.Factor.{network_sections, network_fault}
 use Rattle.acopf.proofs.Order.{network_refusal}
-use Rattle.derived.specs.internal.Agree.{Ready}
-use Rattle.derived.proofs.Ready.{ready}
-use Rattle.validate.specs.declared.Checked.{Checked}
-use Rattle.validate.specs.Check.{outputs_needed, fault_output, fault_point, check_fault}
+use Rattle.validate.specs.Check.{Answer, outputs_needed, fault_output, check_fault}
 use Rattle.validate.specs.Tolerances.{fault_tolerance}
 use Rattle.validate.specs.internal.Verdict.{fault_lent, fault_given, Opened, Answers, refusal}
 use Rattle.validate.proofs.Tolerances.{tolerance_spans}
 use Rattle.validate.proofs.Order.{output_spans, point_spans, swing_spans}
 use Rattle.validate.proofs.Verdict.{count_is, refused_is, list_kept, by_network, by_lent, by_given}
-
--- 13, where the network has so many columns
-pub point_is : (ws : List ℕ) (xs x : List Float) (solver : Float) {n : ℕ} → n ≡ columns ws → point_fault x n ≡ fault_point ws xs x solver
-unfolding fault_point
-point_is ws xs x solver e = ap (point_fault x) e
-
-module _ {ws : List ℕ} {xs : List Float} {l : Layout} {t : Tallies} (T : Tallied ws xs t) where
-  pub columns_are : LaidWords ws l → 2 * l.buses + 2 * l.generators + t.epigraphs ≡ columns ws
-  unfolding columns
-  columns_are L = rw (T.of_epigraphs, L.is)
-
-  -- what 13 and 14 ask
-  pub few_columns : Laid ws xs l → (l.buses ≤ most_buses) × (l.generators ≤ most_generators) × (t.epigraphs ≤ most_generators)
-  few_columns L =
-      let k = ap (λ z. z.generators) L.words.is in
-      (L.words.few_buses, L.words.few_generators, omega (arith, T.few_epigraphs, L.words.few_generators, k))
 
 -- ---- the length of the outputs, from the network alone
 
@@ -66,25 +42,17 @@ module _ (ws : List ℕ) (xs : List Float) where
 -- ---- where 1 to 14 are clear
 
 module _ (ws : List ℕ) (xs x : List Float) (solver : Float) where
-  point_given : Clear (fault_point ws xs x solver) → length x ≡ columns ws
-  unfolding fault_point
-  point_given = by_length.point_given x (columns ws)
-
   output_room : (lent : ℕ) → Clear (fault_output ws xs x solver lent) → 2 * buses ws + 4 * branches ws ≤ lent
   unfolding fault_output
   output_room lent c = leb-true _ _ (unless_true _ 12 1 (omega arith) c)
 
-  pub given_ready : {l : Layout} → Laid ws xs l → Clear (fault_given ws xs x solver) → Ready ws xs x l
-  given_ready L c = ready L (point_given (or_left _ _ c))
-
-  pub check_opened : (ts : List Float) {l : Layout} (lent : ℕ) → network_fault ws xs ≡ clear → Laid ws xs l → Clear (fault_lent ws xs x solver ts lent)
-      → Clear (fault_given ws xs x solver) → Opened ws xs x solver ts l lent
-  check_opened ts lent e L o g =
-      let room = output_room lent (or_left _ (fault_tolerance ts) o) in
+  pub check_opened : (ts : List Float) (lent : ℕ) → clear ≡ network_fault ws xs → clear ≡ fault_lent ws xs x solver ts lent
+      → clear ≡ fault_given ws xs x solver → Opened ws xs x solver ts lent
+  check_opened ts lent e o g =
+      let o' : Clear (fault_lent ws xs x solver ts lent) = ap (λ (f : Fault). f.number) (sym o) in
       record {
-        ready = given_ready L g;
-        room = omega (arith, count_is L, room);
-        cleared = record { network = ap (λ f. f.number) e; lent = o; given = g };
+        room = output_room lent (or_left _ (fault_tolerance ts) o');
+        cleared = record { network = ap (λ (f : Fault). f.number) (sym e); lent = o'; given = ap (λ (f : Fault). f.number) (sym g) };
       }
 
   -- ---- where they decide
@@ -99,7 +67,7 @@ module _ (ws : List ℕ) (xs x : List Float) (solver : Float) where
   given_spans =
       spans_or (spans_wide (omega arith) (omega arith) (point_spans ws xs x solver)) (spans_wide (omega arith) (omega arith) (swing_spans ws xs x solver))
 
-  module _ (ts before : List Float) {f : Fault} {r : Checked} (says : r ≡ refusal f) (refuses : f.number ≡ 0 → ⊥) where
+  module _ (ts before : List Float) {f : Fault} {r : Answer} (says : r ≡ refusal f) (refuses : f.number ≡ 0 → ⊥) where
     stop : f ≡ check_fault ws xs x solver ts (length before) → (f.number ≡ 16 → ⊥)
         → Answers ws xs x solver ts before before r
     stop e l = (says ∙ refused_is ws xs x solver ts (length before) f e refuses l, list_kept ws xs x solver ts before f e refuses)

@@ -1,28 +1,25 @@
 -- The residuals' own function: each way out of it, and that its refusal is the first.
 use mathlib.Core.Path.{◌≡◌, refl, ap, sym, ◌∙◌}
-use mathlib.Core.List.{List, [], ◌∷◌, ◌++◌}
+use mathlib.Core.List.{List, ◌∷◌, ◌++◌}
 use Prim.Native.Nat.{ℕ, ◌≤◌}
 use native.Mathlib.Omega.{arith}
-use lib.ListN.{length, take, drop, get_or}
+use lib.ListN.{length, drop, get_or}
 use lib.Ieee.{Float, nan}
-use borrow.Author.Tests.{eq-eqb, ne_eqb, leb-true}
-use Rattle.base.specs.declared.Fault.{Fault}
-use Rattle.base.specs.Fault.{clear, or_else, first_of}
+use borrow.Author.Tests.{ne_eqb, leb-true}
+use Rattle.base.specs.Fault.{Fault}
+use Rattle.base.specs.declared.refusal.Refusal.{Refusal}
+use Rattle.base.specs.Fault.{clear, shown, or_else, first_of}
+use Rattle.base.proofs.Refusals.{shown_number}
 use Rattle.base.specs.Order.{IsFirst}
 use Rattle.base.proofs.Firsts.{Clear, Spans, spans_unless, or_go, or_stop, unless_true}
 use Rattle.base.proofs.Scans.{or_assoc}
 use Rattle.base.proofs.Order.{AllGive, gives_one, give_append, first_append, refusal_is_first}
-use Rattle.network.specs.declared.layout.Layout.{Layout}
-use Rattle.network.specs.Layout.{Laid}
 use Rattle.acopf.specs.Factor.{network_sections, network_fault}
 use Rattle.acopf.proofs.Order.{network_give}
-use Rattle.derived.specs.internal.Agree.{Ready}
 use Rattle.residuals.specs.Residuals.{residuals}
-use Rattle.validate.specs.declared.measure.Measured.{Measured}
 use Rattle.validate.specs.Check.{Solved, solved, fault_report, fault_point, fault_swing, fault_derived, reported, report_sections, residuals_fault, report_after}
-use Rattle.validate.specs.internal.Verdict.{fault_given, Cleared, Measures}
+use Rattle.validate.specs.internal.Verdict.{fault_given, Cleared}
 use Rattle.validate.proofs.Order.{common_give}
-use Rattle.validate.proofs.Entry.{given_ready}
 
 -- ---- the refusals
 
@@ -83,26 +80,25 @@ module _ (ws : List ℕ) (xs x : List Float) (solver : Float) where
 
   -- ---- where they are clear
 
-  pub report_cleared : {l : Layout} (lent : ℕ) → network_fault ws xs ≡ clear → Laid ws xs l → Clear (fault_report ws xs x solver lent)
-      → Clear (fault_given ws xs x solver)
-      → Ready ws xs x l × (9 ≤ lent) × Cleared ws xs x solver (fault_report ws xs x solver lent)
-  report_cleared lent e L o g =
-      (given_ready ws xs x solver L g, report_room lent o, record { network = ap (λ f. f.number) e; lent = o; given = g })
+  pub report_cleared : (lent : ℕ) → clear ≡ network_fault ws xs → clear ≡ fault_report ws xs x solver lent → clear ≡ fault_given ws xs x solver
+      → (9 ≤ lent) × Cleared ws xs x solver (fault_report ws xs x solver lent)
+  report_cleared lent e o g =
+      let o' : Clear (fault_report ws xs x solver lent) = ap (λ (f : Fault). f.number) (sym o) in
+      (report_room lent o', record { network = ap (λ (f : Fault). f.number) (sym e); lent = o'; given = ap (λ (f : Fault). f.number) (sym g) })
 
-module _ {ws : List ℕ} {xs x : List Float} {solver : Float} {l : Layout} {scratch : List Float} {m : Measured}
-    (M : Measures ws xs x solver l scratch m) (before : List Float) (C : Cleared ws xs x solver (fault_report ws xs x solver (length before))) where
-  whole : m.fault ≡ residuals_fault ws xs x solver (length before)
-  whole = M.fault_is ∙ sym (chain ws xs x solver (length before) ∙ or_go _ _ C.network ∙ or_go _ _ C.lent ∙ or_go _ _ C.given)
+  module _ (before : List Float) (C : Cleared ws xs x solver (fault_report ws xs x solver (length before))) where
+    whole : fault_derived ws xs x solver (solved ws xs x solver) ≡ residuals_fault ws xs x solver (length before)
+    whole = sym (chain (length before) ∙ or_go _ _ C.network ∙ or_go _ _ C.lent ∙ or_go _ _ C.given)
 
-  -- 15
-  pub report_15 : (m.fault.number ≡ 0 → ⊥)
-      → (m.fault ≡ residuals_fault ws xs x solver (length before)) × (before ≡ report_after ws xs x solver before)
-  report_15 c = stop ws xs x solver before c whole
+    -- 15
+    pub report_15 : (r : Refusal) → shown r ≡ fault_derived ws xs x solver (solved ws xs x solver)
+        → (shown r ≡ residuals_fault ws xs x solver (length before)) × (before ≡ report_after ws xs x solver before)
+    report_15 r e = stop before (shown_number r) (e ∙ whole)
 
-  -- the nine numbers
-  pub report_0 : (after : List Float) → m.fault.number ≡ 0
-      → (let r = m.residuals in after ≡ take 9 (get_or r 0 nan ∷ get_or r 1 nan ∷ get_or r 2 nan ∷ get_or r 3 nan ∷ get_or r 4 nan ∷ get_or r 5 nan
-      ∷ get_or r 6 nan ∷ get_or r 7 nan ∷ m.objective ∷ []) ++ drop 9 before)
-      → (m.fault ≡ residuals_fault ws xs x solver (length before)) × (after ≡ report_after ws xs x solver before)
-  unfolding reported solved residuals
-  report_0 after z a = (whole, a ∙ rw (M.residuals_are z, M.objective_is, ← whole, eq-eqb m.fault.number 0 z))
+    -- the nine numbers
+    pub report_0 : (rs : List Float) (own : Float) (after : List Float) → clear ≡ fault_derived ws xs x solver (solved ws xs x solver)
+        → rs ≡ (solved ws xs x solver).residuals → own ≡ (solved ws xs x solver).objective
+        → after ≡ get_or rs 0 nan ∷ get_or rs 1 nan ∷ get_or rs 2 nan ∷ get_or rs 3 nan ∷ get_or rs 4 nan ∷ get_or rs 5 nan ∷ get_or rs 6 nan ∷ get_or rs 7 nan ∷ own ∷ drop 9 before
+        → (clear ≡ residuals_fault ws xs x solver (length before)) × (after ≡ report_after ws xs x solver before)
+    unfolding reported solved residuals
+    report_0 rs own after d q o a = (d ∙ whole, a ∙ rw (q, o, ← whole, ← d))

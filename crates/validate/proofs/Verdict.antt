@@ -1,13 +1,16 @@
 -- The check's answer and its output list, for each way out of the check.
-use mathlib.Core.Path.{◌≡◌, ap, sym, ◌∙◌}
+use mathlib.Core.Path.{◌≡◌, refl, ap, sym, ◌∙◌}
 use mathlib.Core.List.{List, [], ◌∷◌, ◌++◌}
 use Prim.Native.Nat.{ℕ, ◌+◌, ◌*◌}
 use native.Mathlib.Omega.{arith}
-use lib.ListN.{length, take, drop}
+use lib.ListN.{length, drop}
 use lib.Ieee.{Float}
 use borrow.Author.Tests.{eq-eqb, ne_eqb}
-use Rattle.base.specs.declared.Fault.{Fault}
-use Rattle.base.specs.Fault.{clear, or_else}
+use Rattle.base.specs.Fault.{Fault}
+use Rattle.base.specs.declared.refusal.Refusal.{Refusal}
+use Rattle.base.specs.Fault.{clear, shown, or_else}
+use Rattle.base.specs.Refusal.{DERIVED}
+use Rattle.base.proofs.Refusals.{shown_number}
 use Rattle.base.proofs.Firsts.{Clear, or_go, or_stop, or_right}
 use Rattle.base.proofs.Scans.{or_assoc}
 use Rattle.float.specs.Number.{zero64}
@@ -16,18 +19,12 @@ use Rattle.network.specs.declared.layout.Layout.{Layout}
 use Rattle.network.specs.Layout.{Laid}
 use Rattle.lists.specs.Finite.{first_non_finite}
 use Rattle.acopf.specs.Factor.{network_fault}
-use Rattle.derived.specs.Outputs.{flows, outputs}
-use Rattle.derived.specs.internal.Scratch.{Filled}
-use Rattle.derived.proofs.Scratch.{front_outputs}
+use Rattle.derived.specs.Outputs.{flows, outputs, own_objective}
 use Rattle.derived.proofs.Outputs.{length_outputs}
 use Rattle.residuals.specs.Residuals.{residuals}
-use Rattle.residuals.specs.declared.cost.Costs.{Costs}
-use Rattle.residuals.specs.internal.Derived.{CostsAre}
-use Rattle.validate.specs.declared.Checked.{Checked}
-use Rattle.validate.specs.declared.measure.Measured.{Measured}
 use Rattle.validate.specs.Tolerances.{fault_tolerance, fault_residual}
-use Rattle.validate.specs.Check.{Solved, solved, fault_output, fault_point, fault_swing, fault_derived, check_fault, checked, outputs_after}
-use Rattle.validate.specs.internal.Verdict.{fault_lent, fault_given, Cleared, Answers, Measures, refusal}
+use Rattle.validate.specs.Check.{Answer, Solved, solved, fault_output, fault_point, fault_swing, fault_derived, check_fault, checked, outputs_after}
+use Rattle.validate.specs.internal.Verdict.{fault_lent, fault_given, Cleared, Answers, refusal}
 use Rattle.validate.proofs.Tolerances.{residual_spans, eight_given}
 use Rattle.validate.proofs.Order.{derived_spans, check_is}
 
@@ -37,29 +34,27 @@ count_is L = omega (arith, ap (λ z. z.buses) L.words.is, ap (λ z. z.branches) 
 
 -- ---- what is worked out from a point
 
-module _ {ws : List ℕ} {xs x : List Float} {l : Layout} {scratch : List Float} {c : Costs} {d : Fault} (solver : Float)
-    (L : Laid ws xs l) (H : Filled ws xs x l scratch) (C : CostsAre ws xs x c)
-    (is : d ≡ first_non_finite 15 (take (2 * l.buses + 4 * l.branches) scratch ++ (solver ∷ c.objective ∷ []))) where
-  front : take (2 * l.buses + 4 * l.branches) scratch ≡ outputs ws xs x (flows ws xs x)
-  front =
-      front_outputs ws xs x (flows ws xs x) l.buses l.branches scratch (ap (λ z. z.buses) L.words.is) (ap (λ z. z.branches) L.words.is)
-      H.room H.injections_are H.flows_are
-
+module _ (ws : List ℕ) (xs x : List Float) (solver : Float) {l : List Float} {own : Float} (e : l ≡ outputs ws xs x (flows ws xs x)) (o : own ≡ own_objective ws xs x) where
   -- 15 of the outputs and the two objectives
-  derived : d ≡ fault_derived ws xs x solver (solved ws xs x solver)
+  pub derived_is : first_non_finite DERIVED (l ++ (solver ∷ own ∷ [])) ≡ fault_derived ws xs x solver (solved ws xs x solver)
   unfolding fault_derived solved
-  derived = is ∙ rw (front, C.objective_is)
+  derived_is = rw (e, o)
 
-  pub measures_15 : (none : List Float) → (d.number ≡ 0 → ⊥)
-      → Measures ws xs x solver l scratch (record { fault = d; objective = c.objective; residuals = none })
+  pub solved_outputs : l ≡ (solved ws xs x solver).outputs
   unfolding solved
-  measures_15 none n =
-      record { fault_is = derived; objective_is = C.objective_is; residuals_are = λ z. absurd (n z); outputs_are = front }
+  solved_outputs = e
 
-  pub measures_0 : (r : List Float) → r ≡ residuals ws xs x (flows ws xs x) solver
-      → Measures ws xs x solver l scratch (record { fault = d; objective = c.objective; residuals = r })
+  pub solved_objective : own ≡ (solved ws xs x solver).objective
   unfolding solved
-  measures_0 r e = record { fault_is = derived; objective_is = C.objective_is; residuals_are = λ z. e; outputs_are = front }
+  solved_objective = o
+
+pub outputs_length : (ws : List ℕ) (xs x : List Float) (solver : Float) → length (solved ws xs x solver).outputs ≡ 2 * buses ws + 4 * branches ws
+unfolding solved
+outputs_length ws xs x solver = length_outputs ws xs x (flows ws xs x)
+
+pub solved_residuals : (ws : List ℕ) (xs x : List Float) (solver : Float) {r : List Float} → r ≡ residuals ws xs x (flows ws xs x) solver → r ≡ (solved ws xs x solver).residuals
+unfolding solved
+solved_residuals ws xs x solver e = e
 
 -- ---- the refusals in the code's order
 
@@ -87,10 +82,9 @@ module _ (ws : List ℕ) (xs x : List Float) (solver : Float) (ts : List Float) 
   list_kept before f e n = rw (← e, ne_eqb f.number 0 n)
 
   -- the whole list after an accepted point's outputs are written
-  outputs_left : (count : ℕ) (l before : List Float) → count ≡ 2 * buses ws + 4 * branches ws → l ≡ S.outputs
-      → Clear (check_fault ws xs x solver ts (length before)) → l ++ drop count before ≡ outputs_after ws xs x solver ts before
-  unfolding solved
-  outputs_left count l before k e c = rw (e, k, eq-eqb _ 0 c, length_outputs ws xs x (flows ws xs x))
+  outputs_left : (l before : List Float) → l ≡ S.outputs → Clear (check_fault ws xs x solver ts (length before))
+      → l ++ drop (length l) before ≡ outputs_after ws xs x solver ts before
+  outputs_left l before e c = rw (e, eq-eqb _ 0 c)
 
   -- ---- where 1 to 14 decide
 
@@ -125,7 +119,7 @@ module _ (ws : List ℕ) (xs x : List Float) (solver : Float) (ts : List Float) 
     -- 16: the residuals stay
     residual_answer : (f : Fault) (r : List Float) → Clear (fault_derived ws xs x solver S) → f ≡ fault_residual ts S.residuals
         → (f.number ≡ 0 → ⊥) → r ≡ S.residuals
-        → ◌≡◌ {A = Checked} (record { fault = f; objective = zero64; residuals = r }) (checked ws xs x solver ts lent)
+        → ◌≡◌ {A = Answer} (record { fault = f; objective = zero64; residuals = r }) (checked ws xs x solver ts lent)
     unfolding checked check_fault
     residual_answer f r d e n q =
         let s = residual_spans _ S.residuals in
@@ -137,7 +131,7 @@ module _ (ws : List ℕ) (xs x : List Float) (solver : Float) (ts : List Float) 
     -- accepted
     accepted_answer : (f : Fault) (r : List Float) (own : Float) → Clear (fault_derived ws xs x solver S) → f ≡ fault_residual ts S.residuals
         → f.number ≡ 0 → r ≡ S.residuals → own ≡ S.objective
-        → ◌≡◌ {A = Checked} (record { fault = clear; objective = own; residuals = r }) (checked ws xs x solver ts lent)
+        → ◌≡◌ {A = Answer} (record { fault = clear; objective = own; residuals = r }) (checked ws xs x solver ts lent)
     unfolding checked check_fault
     accepted_answer f r own d e n q o =
         let k : f ≡ check_fault ws xs x solver ts lent = e ∙ by_residual d in
@@ -145,40 +139,36 @@ module _ (ws : List ℕ) (xs x : List Float) (solver : Float) (ts : List Float) 
 
 -- ---- the three ways out
 
-module _ {ws : List ℕ} {xs x : List Float} {solver : Float} {l : Layout} {scratch : List Float} {m : Measured} (L : Laid ws xs l)
-    (M : Measures ws xs x solver l scratch m) (ts before : List Float) (C : Cleared ws xs x solver (fault_lent ws xs x solver ts (length before))) where
-  derived_clear : m.fault.number ≡ 0 → Clear (fault_derived ws xs x solver (solved ws xs x solver))
-  derived_clear z = ap (λ f. f.number) (sym M.fault_is) ∙ z
-
+module _ (ws : List ℕ) (xs x : List Float) (solver : Float) (ts before : List Float) (C : Cleared ws xs x solver (fault_lent ws xs x solver ts (length before))) where
   -- 15
-  pub says_15 : (r : Checked) → r ≡ refusal m.fault → (m.fault.number ≡ 0 → ⊥)
-      → Answers ws xs x solver ts before before r
-  says_15 r e c =
-      let refuses : Clear (fault_derived ws xs x solver (solved ws xs x solver)) → ⊥ = λ z. c (ap (λ f. f.number) M.fault_is ∙ z) in
-      let k = M.fault_is ∙ by_derived ws xs x solver ts (length before) C refuses in
+  pub says_15 : (r : Refusal) → shown r ≡ fault_derived ws xs x solver (solved ws xs x solver) → Answers ws xs x solver ts before before (refusal (shown r))
+  says_15 r e =
+      let n : (shown r).number ≡ 0 → ⊥ = shown_number r in
+      let same : (shown r).number ≡ (fault_derived ws xs x solver (solved ws xs x solver)).number = ap (λ (f : Fault). f.number) e in
+      let refuses : Clear (fault_derived ws xs x solver (solved ws xs x solver)) → ⊥ = λ z. n (same ∙ z) in
+      let k = e ∙ by_derived ws xs x solver ts (length before) C refuses in
       let high = (derived_spans ws xs x solver (solved ws xs x solver)).high refuses in
-      let other : m.fault.number ≡ 16 → ⊥ = λ z. omega (arith, ap (λ f. f.number) M.fault_is, high) in
-      (e ∙ refused_is ws xs x solver ts (length before) m.fault k c other, list_kept ws xs x solver ts before m.fault k c)
+      let other : (shown r).number ≡ 16 → ⊥ = λ z. omega (arith, same, high) in
+      (refused_is ws xs x solver ts (length before) (shown r) k n other, list_kept ws xs x solver ts before (shown r) k n)
 
-  module _ (z : m.fault.number ≡ 0) (f : Fault) (k : f ≡ fault_residual ts m.residuals) where
-    residual : f ≡ fault_residual ts (solved ws xs x solver).residuals
-    residual = rw (M.residuals_are z) at k
-
-    whole : f ≡ check_fault ws xs x solver ts (length before)
-    whole = residual ∙ by_residual ws xs x solver ts (length before) C (derived_clear z)
+  module _ (d : clear ≡ fault_derived ws xs x solver (solved ws xs x solver)) (rs : List Float) (q : rs ≡ (solved ws xs x solver).residuals) where
+    derived_clear : Clear (fault_derived ws xs x solver (solved ws xs x solver))
+    derived_clear = ap (λ (f : Fault). f.number) (sym d)
 
     -- 16
-    pub says_16 : (f.number ≡ 0 → ⊥)
-        → Answers ws xs x solver ts before before (record { fault = f; objective = zero64; residuals = m.residuals })
-    says_16 c =
-        (residual_answer ws xs x solver ts (length before) C f m.residuals (derived_clear z) residual c (M.residuals_are z), list_kept ws xs x solver ts before f whole c)
+    pub says_16 : (r : Refusal) → shown r ≡ fault_residual ts rs → Answers ws xs x solver ts before before (record { fault = shown r; objective = zero64; residuals = rs })
+    says_16 r e =
+        let k : shown r ≡ fault_residual ts (solved ws xs x solver).residuals = rw q at e in (
+          residual_answer ws xs x solver ts (length before) C (shown r) rs derived_clear k (shown_number r) q,
+          list_kept ws xs x solver ts before (shown r) (k ∙ by_residual ws xs x solver ts (length before) C derived_clear) (shown_number r),
+        )
 
     -- accepted
-    pub says_0 : (after : List Float) → f.number ≡ 0
-        → after ≡ take (2 * l.buses + 4 * l.branches) scratch ++ drop (2 * l.buses + 4 * l.branches) before
-        → Answers ws xs x solver ts before after (record { fault = clear; objective = m.objective; residuals = m.residuals })
-    says_0 after c a =
-        let h : Clear (check_fault ws xs x solver ts (length before)) = ap (λ y. y.number) (sym whole) ∙ c in (
-          accepted_answer ws xs x solver ts (length before) C f m.residuals m.objective (derived_clear z) residual c (M.residuals_are z) M.objective_is,
-          a ∙ outputs_left ws xs x solver ts _ _ before (count_is L) M.outputs_are h,
+    pub says_0 : (l after : List Float) (own : Float) → clear ≡ fault_residual ts rs → l ≡ (solved ws xs x solver).outputs → own ≡ (solved ws xs x solver).objective
+        → after ≡ l ++ drop (length l) before → Answers ws xs x solver ts before after (record { fault = clear; objective = own; residuals = rs })
+    says_0 l after own e o w a =
+        let k : clear ≡ fault_residual ts (solved ws xs x solver).residuals = rw q at e in
+        let whole = k ∙ by_residual ws xs x solver ts (length before) C derived_clear in (
+          accepted_answer ws xs x solver ts (length before) C clear rs own derived_clear k refl q w,
+          a ∙ outputs_left ws xs x solver ts l before o (ap (λ (f : Fault). f.number) (sym whole)),
         )

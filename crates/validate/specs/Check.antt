@@ -1,7 +1,7 @@
 -- Document 01, "The accepted point", and refusals 12, 20 and 13 to 16: what the check answers, and what the lent output list then holds.
-use Rattle.std.specs.Prelude.{ℕ, ◌+◌, ◌*◌, cond, List, [], ◌∷◌, ◌++◌, length, get_or, replicate, eqb, leb, ltb, Float}
+use Rattle.std.specs.Prelude.{ℕ, ◌+◌, ◌*◌, cond, List, [], ◌∷◌, ◌++◌, length, get_or, replicate, eqb, leb, ltb, Float, Result, Ok, Err}
 use Rattle.std.specs.Float.{nan}
-use Rattle.base.specs.declared.Fault.{Fault}
+use Rattle.base.specs.Fault.{Fault}
 use Rattle.base.specs.Fault.{fault, clear, unless, first, Section, section, first_of, left}
 use Rattle.base.specs.Refusal.{SHORT, POINT, SWING, DERIVED, RESIDUAL, TOLERANCE}
 use Rattle.float.specs.Number.{zero64}
@@ -9,6 +9,8 @@ use Rattle.network.specs.Network.{buses, branches, columns, va_column}
 use Rattle.bounds.specs.Bounds.{angle_right}
 use Rattle.lists.specs.Finite.{first_non_finite, point_fault}
 use Rattle.acopf.specs.Factor.{network_sections, network_fault}
+use Rattle.base.specs.declared.refusal.Refusal.{Refusal}
+use Rattle.base.specs.Fault as base
 use Rattle.validate.specs.declared.Checked.{Checked}
 use Rattle.validate.specs.Tolerances.{fault_tolerance, fault_residual}
 use Rattle.derived.specs.Outputs.{va, flows, outputs, own_objective}
@@ -22,6 +24,19 @@ residual_at residuals i = cond (ltb i 8) (get_or residuals i nan) zero64
 unfoldable pub outputs_needed : List ℕ → List Float → ℕ
 outputs_needed ws xs = cond (eqb (network_fault ws xs).number 0) (2 * buses ws + 4 * branches ws) 0
 
+-- what the check says: a refusal's number and place, the objective and the eight residuals
+pub record Answer : Type 0 where
+  pub fault : Fault
+  pub objective : Float
+  pub residuals : List Float
+
+abbrev pub objective_of : Result Float Refusal → Float
+objective_of (Ok objective) = objective
+objective_of (Err r) = zero64
+
+abbrev pub answer_of : Checked → Answer
+answer_of c = record { fault = base.fault_of c.verdict; objective = objective_of c.verdict; residuals = c.residuals }
+
 -- what is calculated from a point
 pub record Solved : Type 0 where
   pub outputs : List Float
@@ -29,7 +44,7 @@ pub record Solved : Type 0 where
   pub residuals : List Float
 
 -- "A refusal gives number and place, all else 0, except 16, which gives the residuals."
-abbrev pub answered : Fault → Solved → Checked
+abbrev pub answered : Fault → Solved → Answer
 answered f s =
     cond (eqb f.number 0) (record { fault = clear; objective = s.objective; residuals = s.residuals })
     (record { fault = f; objective = zero64; residuals = cond (eqb f.number RESIDUAL) s.residuals (replicate 8 zero64) })
@@ -79,7 +94,7 @@ module _ (ws : List ℕ) (xs x : List Float) (solver : Float) where
     unfoldable pub check_fault : ℕ → Fault
     check_fault lent = fault_of lent solved
 
-    unfoldable pub checked : ℕ → Checked
+    unfoldable pub checked : ℕ → Answer
     checked lent =
         let s = solved in
         let f = fault_of lent s in

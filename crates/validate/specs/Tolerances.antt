@@ -2,7 +2,7 @@
 use Rattle.std.specs.Prelude.{ℕ, ◌+◌, Bool, not, List, length, get_or, replicate, eqb, Float}
 use Rattle.std.specs.Float.{nan, binary64}
 use Rattle.std.specs.Float.Ieee.{of_bits, lt}
-use Rattle.base.specs.declared.Fault.{Fault}
+use Rattle.base.specs.Fault.{Fault}
 use Rattle.base.specs.Fault.{fault, unless, or_else, first}
 use Rattle.base.specs.Refusal.{RESIDUAL, TOLERANCE}
 use Rattle.float.specs.Number.{zero64}

@@ -7,19 +7,19 @@ ghost use Rattle.float.specs.Doubles.{Doubles};
 ghost use Rattle.validate.specs.Check.{outputs_needed, checked, outputs_after, residuals_fault, report_after};
 ghost use Rattle.validate.specs.Check.{residual_at};
 
+use crate::point::output_count;
 use crate::primal::check;
 use crate::report::residuals;
-use factor::{Judged, judge};
+use factor::judge;
 
 // The length of the outputs, from the network alone: a host sizes its list by it before it lends it. 0 where the network is refused.
 #[unsafe(no_mangle)]
 pub extern "C" fn fervoulk_outputs(words: &[u32], numbers: &[f64]) -> usize
     ensures { result ≡ outputs_needed words.now numbers.now }
 {
-    let judged = judge(words, numbers);
-    match judged {
-        Judged::Refused(_) => 0,
-        Judged::Sound(layout, _) => 2 * layout.buses + 4 * layout.branches,
+    match judge(words, numbers) {
+        Ok(case) => output_count(&case.tables),
+        Err(_) => 0,
     }
 }
 
@@ -40,7 +40,7 @@ pub extern "C" fn fervoulk_check(
         × Doubles xs × Doubles x × T (fits binary64 solver) × Doubles ts }
 {
     let answer = check(words, numbers, point, solver, tolerances, outputs);
-    base::packed(answer.fault)
+    base::packed(answer.verdict)
 }
 
 #[unsafe(no_mangle)]
@@ -57,7 +57,7 @@ pub extern "C" fn fervoulk_objective(
         (result ≡ (checked ws xs x solver ts (length before)).objective) × (outputs.new ≡ outputs_after ws xs x solver ts before) }
 {
     let answer = check(words, numbers, point, solver, tolerances, outputs);
-    answer.objective
+    answer.objective()
 }
 
 fn residual(residuals: [f64; 8], i: usize) -> f64
@@ -83,8 +83,7 @@ pub extern "C" fn fervoulk_residual(
         × (outputs.new ≡ outputs_after ws xs x solver ts before) }
 {
     let answer = check(words, numbers, point, solver, tolerances, outputs);
-    let residuals = answer.residuals;
-    residual(residuals, i)
+    residual(answer.residuals, i)
 }
 
 // All eight residuals and the objective by one run: number and place as `residuals` answers, and the list as it leaves it.

@@ -1,48 +1,41 @@
-// What is worked out from a point that 1 to 14 do not refuse: the outputs, the objective and the residuals, and refusal 15.
-ghost use Rattle.std.specs.Prelude.{◌+◌, ◌*◌, ◌≤◌, length};
-ghost use Rattle.derived.specs.internal.Agree.{Ready};
-ghost use Rattle.validate.specs.internal.Verdict.{Measures};
+// What is worked out from a candidate: the outputs, the objective and the residuals, and refusal 15.
+ghost use Rattle.std.specs.Prelude.{◌≡◌, ◌+◌, ◌*◌, length, IfOk};
+ghost use Rattle.base.specs.Fault.{fault_of};
+ghost use Rattle.validate.specs.Check.{solved, fault_derived};
 
-use base::Fault;
-use derived::{derived_fault, fill_outputs};
-use network::Layout;
+use base::Refusal;
+use derived::{Candidate, Derived};
 use residuals::{costs_at, residuals_at};
 
-// Where the fault is 15 the residuals are 0.
 #[derive(Clone, Copy)]
-pub(crate) struct Measured {
-    pub fault: Fault,
+pub(crate) struct Measured<'b> {
+    pub outputs: &'b [f64],
     pub objective: f64,
     pub residuals: [f64; 8],
 }
 
-// The outputs fill the scratch list's front.
-pub(crate) fn measure(
-    words: &[u32],
-    numbers: &[f64],
-    point: &[f64],
-    layout: Layout,
+// The outputs fill the list.
+pub(crate) fn measure<'b>(
+    candidate: &Candidate,
     solver: f64,
-    scratch: &mut [f64],
-) -> Measured
-    requires { (Ready words.now numbers.now point.now layout)
-        × (2 * layout.buses + 4 * layout.branches ≤ length scratch.old) }
-    ensures { Measures words.now numbers.now point.now solver layout scratch.new result }
+    list: &'b mut [f64],
+) -> Result<Measured<'b>, Refusal>
+    requires { let layout = candidate.now.tables.layout in length list.old ≡ 2 * layout.buses + 4 * layout.branches }
+    ensures fault { let ws = candidate.now.tables.words.now in let xs = candidate.now.tables.numbers.now in
+        let x = candidate.now.point.now in fault_of result ≡ fault_derived ws xs x solver (solved ws xs x solver) }
+    ensures outputs { let ws = candidate.now.tables.words.now in let xs = candidate.now.tables.numbers.now in
+        IfOk result (λ m. m.outputs.now ≡ (solved ws xs candidate.now.point.now solver).outputs) }
+    ensures objective { let ws = candidate.now.tables.words.now in let xs = candidate.now.tables.numbers.now in
+        IfOk result (λ m. m.objective ≡ (solved ws xs candidate.now.point.now solver).objective) }
+    ensures residuals { let ws = candidate.now.tables.words.now in let xs = candidate.now.tables.numbers.now in
+        IfOk result (λ m. m.residuals ≡ (solved ws xs candidate.now.point.now solver).residuals) }
 {
-    fill_outputs(words, numbers, point, layout, scratch);
-    let costs = costs_at(words, numbers, point, layout);
-    let count = 2 * layout.buses + 4 * layout.branches;
-    let fault = derived_fault(scratch, count, solver, costs.objective);
-    if fault.number != 0 {
-        return Measured {
-            fault,
-            objective: costs.objective,
-            residuals: [0.0; 8],
-        };
-    }
-    Measured {
-        fault,
+    let derived = Derived::new(candidate, list);
+    let costs = costs_at(candidate);
+    derived.fault(solver, costs.objective)?;
+    Ok(Measured {
+        outputs: derived.list,
         objective: costs.objective,
-        residuals: residuals_at(words, numbers, point, layout, scratch, solver, costs),
-    }
+        residuals: residuals_at(&derived, solver, costs),
+    })
 }

@@ -3,294 +3,221 @@
 #![tactic(auto)]
 
 ghost use Rattle.std.specs.Prelude.{◌≡◌, ◌≤◌, ◌<◌, length};
+ghost use Rattle.std.specs.Iterator.{at_most};
 
-use base::Fault;
-use little_endian::{number_at, record_number, record_word};
-use row_values::RowValues;
-use std::io::Read;
+use base::{Reason, Refusal};
+use little_endian::{Record, number_at};
+use model_reading::{Counts, row_counts};
+use nl::ModelFile;
+use row_values::{RowValues, row_values};
+use std::alloc::{AllocError, Global};
 use std::{fs, io};
 
-// The most bytes of data/cases that are read.
-const LARGEST: u64 = 65536;
+// What the lists hold that are lent.
+const LENT: f64 = 5.0;
 
-// The double of which word i is the low half; 0 past the data.
-fn double(data: &[u8], at: usize, i: usize) -> f64 {
-    let n = data.len() / 4;
-    if n <= at {
-        return 0.0;
-    }
-    if n - at <= i {
-        return 0.0;
-    }
-    if n - at - i == 1 {
-        return 0.0;
-    }
-    number_at(data, (at + i) * 4)
+// What a case says, added up in its word 8.
+const OBJECTIVE: u32 = 1;
+
+const SHARED: u32 = 2;
+
+const ROWS: u32 = 4;
+
+fn says(case: Record, what: u32) -> bool {
+    case.word(8) & what != 0
 }
 
-// Word q of a middle, whose first word counts up.
-fn counted_up(w: u32, q: usize) -> u32
-    requires { q < 4294967296 }
-{
-    let turn = (q / 2) as u32;
-    if q % 2 == 1 {
-        return w;
-    }
-    if u32::MAX - w < turn {
-        return w;
-    }
-    w + turn
-}
-
-// Word k of the list of words that stands at the record's word i.
-fn list_word(data: &[u8], at: usize, i: usize, k: usize) -> u32
-    requires { (i < 4294967296) × (k < 4294967296) }
-{
-    let head = record_number(data, at, i + 1);
-    let middle = record_number(data, at, i + 2);
-    if k < head {
-        return record_word(data, at, i + 3 + k);
-    }
-    if k - head < middle {
-        let q = k - head;
-        return counted_up(record_word(data, at, i + 3 + head + q % 2), q);
-    }
-    record_word(data, at, i + 5 + (k - middle))
-}
-
-// Double k of the list of doubles that stands at the record's word i.
-fn list_double(data: &[u8], at: usize, i: usize, k: usize) -> f64
-    requires { (i < 4294967296) × (k < 4294967296) }
-{
-    let head = record_number(data, at, i + 1);
-    let middle = record_number(data, at, i + 2);
-    if k < head {
-        return double(data, at, i + 3 + 2 * k);
-    }
-    if k - head < middle {
-        return double(data, at, i + 3 + 2 * head);
-    }
-    double(data, at, i + 5 + 2 * (k - middle))
-}
-
-// Writes the list of words to the front of `out`, and answers how many there are; 0 where there is no room.
-fn words_into(data: &[u8], at: usize, i: usize, out: &mut [u32]) -> usize
+// The record from word i on.
+fn from_word(record: Record, i: usize) -> Record
     requires { i < 4294967296 }
-    ensures { result ≤ length out.new }
 {
-    let n = record_number(data, at, i);
-    if out.len() < n {
-        return 0;
+    Record {
+        bytes: record.bytes.get(4 * i..).unwrap_or(&[]),
     }
-    let mut k: usize = 0;
-    while k < n {
-        out[k] = list_word(data, at, i, k);
-        k += 1;
-    }
-    n
 }
 
-// The same of a list of doubles.
-fn doubles_into(data: &[u8], at: usize, i: usize, out: &mut [f64]) -> usize
-    requires { i < 4294967296 }
-    ensures { result ≤ length out.new }
-{
-    let n = record_number(data, at, i);
-    if out.len() < n {
-        return 0;
+// Double i of a record of doubles; 0 past the data.
+fn double(record: Record, i: usize) -> f64 {
+    if i < record.bytes.len() / 8 {
+        number_at(record.bytes, 8 * i)
+    } else {
+        0.0
     }
-    let mut k: usize = 0;
-    while k < n {
-        out[k] = list_double(data, at, i, k);
-        k += 1;
-    }
-    n
 }
 
 fn same_bits(x: f64, y: f64) -> bool {
     float::to_bits(x) == float::to_bits(y)
 }
 
-// Whether the front of `list` is the list of doubles that stands at word i, and the rest as it was.
-fn list_right(data: &[u8], at: usize, i: usize, list: &[f64]) -> bool
-    requires { i < 4294967296 }
-{
-    let n = record_number(data, at, i);
-    let mut k: usize = 0;
-    while k < list.len() {
-        let expected = if k < n {
-            list_double(data, at, i, k)
+// A list of a case. Of its middle only what repeats is stored, between its head and the rest.
+#[derive(Clone, Copy)]
+struct List<'a> {
+    length: u32,
+    head: u32,
+    middle: u32,
+    stored: Record<'a>,
+}
+
+impl<'a> List<'a> {
+    // The list whose place is the case's word i.
+    fn of(case: Record<'a>, i: usize) -> List<'a> {
+        let list = from_word(case, case.number(i));
+        List {
+            length: list.word(0),
+            head: list.word(1),
+            middle: list.word(2),
+            stored: from_word(list, 3),
+        }
+    }
+
+    // Where item k is stored, and for what turn, if the middle repeats so many items.
+    fn place(self, k: u32, period: u32) -> (usize, u32)
+        requires { 0 < period }
+    {
+        if k < self.head {
+            return (k as usize, 0);
+        }
+        let past_head = k - self.head;
+        if past_head < self.middle {
+            let i = self.head as usize + (past_head % period) as usize;
+            return (i, past_head / period);
+        }
+        let rest = (past_head - self.middle) as usize;
+        (self.head as usize + period as usize + rest, 0)
+    }
+
+    // Word k: the first of the two that a middle repeats counts up.
+    fn word(self, k: u32) -> u32 {
+        let (i, turn) = self.place(k, 2);
+        let stored = self.stored.word(i);
+        if i == self.head as usize {
+            stored.wrapping_add(turn)
         } else {
-            5.0
-        };
-        if !same_bits(list[k], expected) {
-            return false;
-        }
-        k += 1;
-    }
-    true
-}
-
-// Whether the record says the objective (0), the shared values (1), the row values (2).
-fn says(data: &[u8], at: usize, what: usize) -> bool {
-    let said = record_number(data, at, 8);
-    if what == 0 {
-        return said % 2 == 1;
-    }
-    if what == 1 {
-        return said / 2 % 2 == 1;
-    }
-    said / 4 % 2 == 1
-}
-
-// Both lists, whole: what was lent, and what lies behind it.
-fn lists_right(data: &[u8], at: usize, shared: &[f64], rows: &[f64]) -> bool {
-    if says(data, at, 1) {
-        if !list_right(data, at, record_number(data, at, 14), shared) {
-            return false;
+            stored
         }
     }
-    if says(data, at, 2) {
-        return list_right(data, at, record_number(data, at, 15), rows);
+
+    fn value(self, k: u32) -> f64 {
+        double(self.stored, self.place(k, 1).0)
     }
-    true
+
+    fn words(self, alloc: Global) -> Result<Vec<u32>, AllocError> {
+        (0..self.length).map(|k| self.word(k)).collect(alloc)
+    }
+
+    fn values(self, alloc: Global) -> Result<Vec<f64>, AllocError> {
+        (0..self.length).map(|k| self.value(k)).collect(alloc)
+    }
 }
 
-fn fault_right(data: &[u8], at: usize, fault: Fault) -> bool {
-    if fault.number != record_word(data, at, 4) {
-        return false;
-    }
-    fault.place == record_number(data, at, 5)
-}
-
-// Whether the counts are those of the record, or 0 and 0.
-fn counts_right(data: &[u8], at: usize, shared: usize, rows: usize, some: bool) -> bool {
-    if !some {
-        return shared == 0 && rows == 0;
-    }
-    shared == record_number(data, at, 9) && rows == record_number(data, at, 10)
-}
-
-fn answer_right(data: &[u8], at: usize, answer: RowValues) -> bool {
-    if !fault_right(data, at, answer.fault) {
-        return false;
-    }
-    if says(data, at, 0) {
-        if !same_bits(answer.objective, double(data, at, 6)) {
-            return false;
+// Whether the list has the stored values in front, and the rest as it was lent.
+fn has_front(stored: &[f64], list: &[f64]) -> bool {
+    match list.split_at_checked(stored.len()) {
+        Some((front, rest)) => {
+            front.iter().zip(stored).all(|(x, y)| same_bits(*x, *y))
+                && rest.iter().all(|x| *x == LENT)
         }
+        None => false,
     }
-    counts_right(
-        data,
-        at,
-        answer.shared,
-        answer.rows,
-        answer.fault.number == 0,
-    )
 }
 
-// Row values into two lists of which a front part is lent.
-fn lent_right(
-    data: &[u8],
-    at: usize,
-    words: &[u32],
-    constants: &[f64],
-    point: &[f64],
-    shared: &mut [f64],
-    rows: &mut [f64],
-) -> bool {
-    let columns = record_number(data, at, 1);
-    let lent_shared = record_number(data, at, 2);
-    let lent_rows = record_number(data, at, 3);
-    if shared.len() < lent_shared {
-        return false;
-    }
-    if rows.len() < lent_rows {
-        return false;
-    }
-    let answer = row_values::row_values(
-        words,
-        constants,
-        columns,
-        point,
-        &mut shared[..lent_shared],
-        &mut rows[..lent_rows],
-    );
-    if !answer_right(data, at, answer) {
-        return false;
-    }
-    lists_right(data, at, shared, rows)
+// Whether the list is the one whose place is the case's word i, where the case says it.
+fn list_right(
+    alloc: Global,
+    case: Record,
+    what: u32,
+    i: usize,
+    list: &[f64],
+) -> Result<bool, AllocError> {
+    let stored = List::of(case, i).values(alloc)?;
+    Ok(!says(case, what) || has_front(&stored, list))
 }
 
-fn values_right(data: &[u8], at: usize, words: &[u32], constants: &[f64], point: &[f64]) -> bool {
-    let mut shared = [5.0; 4416];
-    let mut rows = [5.0; 4416];
-    lent_right(data, at, words, constants, point, &mut shared, &mut rows)
+// The objective, where the case says it, and the counts of what is written.
+fn values_right(case: Record, values: RowValues) -> bool {
+    let objective_right = same_bits(values.objective, double(case, 3));
+    (!says(case, OBJECTIVE) || objective_right)
+        && values.shared == case.number(9)
+        && values.rows == case.number(10)
+}
+
+fn answer_right(case: Record, answer: Result<RowValues, Refusal>) -> bool {
+    base::shown(answer) == (case.word(4), case.number(5))
+        && answer.map_or(true, |values| values_right(case, values))
 }
 
 // The counts of a file: 17 and 2 alone refuse them.
-fn file_right(data: &[u8], at: usize, words: &[u32], constants: usize) -> bool {
-    let counts = model_reading::row_counts(words, constants, record_number(data, at, 1));
-    let refusal = record_word(data, at, 4);
-    if refusal == 2 || refusal == 17 {
-        if !fault_right(data, at, counts.fault) {
-            return false;
-        }
+fn counts_right(case: Record, answer: Result<Counts, Refusal>) -> bool {
+    let number = case.word(4);
+    let refused = number == Reason::Model.number() || number == Reason::Size.number();
+    let shown = if refused {
+        (number, case.number(5))
     } else {
-        if counts.fault.number != 0 {
-            return false;
+        (0, 0)
+    };
+    let counts = answer.unwrap_or(Counts { shared: 0, rows: 0 });
+    base::shown(answer) == shown
+        && counts.shared == case.number(9)
+        && counts.rows == case.number(10)
+}
+
+fn right(alloc: Global, case: Record) -> Result<bool, AllocError> {
+    let words = List::of(case, 11).words(alloc)?;
+    let constants = List::of(case, 12).values(alloc)?;
+    let point = List::of(case, 13).values(alloc)?;
+    let mut shared = vec![in alloc; LENT; case.number(2)]?;
+    let mut rows = vec![in alloc; LENT; case.number(3)]?;
+    let file = ModelFile {
+        words: &words,
+        constants: constants.len(),
+        columns: case.number(1),
+    };
+    let counts = row_counts(&file);
+    let answer = row_values(
+        &words,
+        &constants,
+        case.number(1),
+        &point,
+        &mut shared,
+        &mut rows,
+    );
+    Ok(
+        counts_right(case, counts)
+            && answer_right(case, answer)
+            && list_right(alloc, case, SHARED, 14, &shared)?
+            && list_right(alloc, case, ROWS, 15, &rows)?,
+    )
+}
+
+// The records of the data, up to a length of 0.
+#[derive(Drop)]
+struct Records<'a> {
+    data: &'a [u8],
+}
+
+impl<'a> Iterator for Records<'a> {
+    type Item = Record<'a>;
+
+    ghost remaining = { λ s. at_most (length s.data.now) };
+
+    fn next(&mut self) -> Option<Record<'a>> {
+        let record = Record { bytes: self.data };
+        let size = record.number(0);
+        if self.data.is_empty() || size == 0 {
+            return None;
         }
+        self.data = self.data.get(4 * size..).unwrap_or(&[]);
+        Some(record)
     }
-    counts_right(data, at, counts.shared, counts.rows, true)
-}
-
-fn right(data: &[u8], at: usize) -> bool {
-    let mut words = [0u32; 8768];
-    let mut constants = [0.0; 64];
-    let mut point = [0.0; 64];
-    let w = words_into(data, at, record_number(data, at, 11), &mut words);
-    let c = doubles_into(data, at, record_number(data, at, 12), &mut constants);
-    let p = doubles_into(data, at, record_number(data, at, 13), &mut point);
-    if !file_right(data, at, &words[..w], c) {
-        return false;
-    }
-    values_right(data, at, &words[..w], &constants[..c], &point[..p])
-}
-
-#[derive(Clone, Copy)]
-pub struct Tally {
-    pub cases: usize,
-    pub wrong: usize,
-}
-
-// The records up to the data's end, or up to a length of 0.
-fn replay(data: &[u8]) -> Tally {
-    let n = data.len() / 4;
-    let mut at: usize = 0;
-    let mut cases: usize = 0;
-    let mut wrong: usize = 0;
-    while at < n {
-        let size = record_number(data, at, 0);
-        if size == 0 {
-            return Tally { cases, wrong };
-        }
-        if !right(data, at) {
-            wrong += 1;
-        }
-        cases += 1;
-        at += size;
-    }
-    Tally { cases, wrong }
-}
-
-fn print(rt: &impl Print, t: Tally) -> io::Result<()> {
-    println!(rt; "{} cases, {} wrong", t.cases, t.wrong)
 }
 
 fn main(rt: HostRuntime) -> io::Result<()> {
-    let mut bytes = Vec::new(rt.alloc());
-    fs::open(&rt, "cases")?
-        .take(LARGEST)
-        .read_to_end(&mut bytes)?;
-    print(&rt, replay(bytes.as_slice()))
+    let bytes = fs::read(&rt, "cases")?;
+    let answers: Vec<bool> = Records {
+        data: bytes.as_slice(),
+    }
+    .map(|case| right(rt.alloc(), case))
+    .try_collect(rt.alloc())?;
+    let wrong = answers.iter().filter(|right| !**right).count();
+    println!(rt; "{} cases, {wrong} wrong", answers.len())
 }

@@ -13,6 +13,7 @@ use Rattle.base.specs.Refusal.{SWING, VALUE}
 use Rattle.base.proofs.Firsts.{Clear, or_go, or_left, or_right}
 use Rattle.float.specs.Number.{◌⊕◌, ◌⊖◌, ◌⊗◌, zero64, is_finite, AllFinite}
 use Rattle.float.proofs.Finite.{finite_append}
+use Rattle.rounding.proofs.Folds.{neg_finite}
 use Rattle.rounding.proofs.Products.{mul_finite}
 use Rattle.rounding.proofs.Rounded.{infs_not_finite}
 use Rattle.lists.specs.Finite.{point_fault}
@@ -40,15 +41,9 @@ add_finite (fin s m e) nan h = absurd (false≢true h)
 add_finite (fin s m e) (inf t) h = absurd (false≢true h)
 add_finite (fin s m e) (fin t n d) h = (refl, refl)
 
-neg_finite : (x : Float) → is_finite (neg x) ≡ true → is_finite x ≡ true
-unfolding neg is_finite
-neg_finite nan h = h
-neg_finite (inf s) h = h
-neg_finite (fin s m e) h = refl
-
 sub_finite : (x y : Float) → is_finite (x ⊖ y) ≡ true → (is_finite x ≡ true) × (is_finite y ≡ true)
 unfolding sub
-sub_finite x y h = let f = add_finite x (neg y) h in (f.0, neg_finite y f.1)
+sub_finite x y h = let f = add_finite x (neg y) h in (f.0, sym (neg_finite y) ∙ f.1)
 
 step_finite : (kind : ℕ) (a b : Float) → is_finite (step kind a b) ≡ true → (is_finite a ≡ true) × (is_finite b ≡ true)
 unfolding step
@@ -87,7 +82,7 @@ applied_finite kind a k h = go (eqb kind 6) (eqb kind 7) (eqb kind 8) _ _ k h
     go false false true c s k h = inside_finite a k
     go false false false c s k h = h
 
-and_both : (a b : Bool) → a && b ≡ true → (a ≡ true) × (b ≡ true)
+pub and_both : (a b : Bool) → a && b ≡ true → (a ≡ true) × (b ≡ true)
 and_both true b h = (refl, h)
 and_both false b h = absurd (false≢true h)
 

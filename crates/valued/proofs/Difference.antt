@@ -15,6 +15,7 @@ use Rattle.float.specs.Number.{◌⊖◌}
 use Rattle.float.proofs.Really.{Signed, round_signed}
 use Rattle.float.proofs.Negated.{round_neg}
 use Rattle.bounds.specs.Bounds.{swing64, angle_right}
+use Rattle.valued.proofs.Constants.{and_both}
 use Rattle.expression.specs.Value.{argument_limit, inside}
 
 -- ---- the two limits
@@ -32,10 +33,6 @@ unfolding round units odd size
 limit_rounds = refl
 
 -- ---- tests
-
-both : (a b : Bool) → a && b ≡ true → (a ≡ true) × (b ≡ true)
-both true b h = (refl, h)
-both false b h = absurd (false≢true h)
 
 -- what an order of two numbers of one sign says of their sizes, and the other way round
 sizes : (a b : ℕ) (level c : Bool) → (level ≡ true → a ≡ b) → ltb a b || (level && c) ≡ true → a ≤ b
@@ -71,7 +68,7 @@ small_by (fin false m e) h k = let l = sizes (m * up e * 1) (1024 * down e) (eqb
 small : (x : Float) → angle_right x ≡ true → Small x
 unfolding angle_right
 small x h =
-    let p = both (le (neg swing64) x) (le x swing64) h in
+    let p = and_both (le (neg swing64) x) (le x swing64) h in
     small_by x (subst (λ (y : Float). le (neg y) x ≡ true) swing_is p.0) (subst (λ (y : Float). le x y ≡ true) swing_is p.1)
 
 pub nan_not_right : angle_right nan ≡ true → ⊥

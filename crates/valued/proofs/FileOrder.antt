@@ -7,7 +7,7 @@ use lib.ListN.{get_or, drop}
 use lib.Dec.{eqb}
 use lib.Ieee.{Float}
 use borrow.Author.Tests.{eqb-true, eqb-false}
-use Rattle.base.specs.declared.Fault.{Fault}
+use Rattle.base.specs.Fault.{Fault}
 use Rattle.base.specs.Fault.{clear, or_else}
 use Rattle.base.specs.Order.{member}
 use Rattle.base.specs.Refusal.{SWING, VALUE}

@@ -8,7 +8,7 @@ use lib.Dec.{eqb, leb}
 use lib.ListN.{length, get_or}
 use lib.Ieee.{Float, nan}
 use borrow.Author.Tests.{le-leb}
-use Rattle.base.specs.declared.Fault.{Fault}
+use Rattle.base.specs.Fault.{Fault}
 use Rattle.base.specs.Fault.{fault, unless, or_else, first}
 use Rattle.base.specs.Loop.{loop}
 use Rattle.base.specs.Refusal.{SHORT, POINT, SWING, VALUE}

@@ -9,8 +9,8 @@ use lib.ListN.{length, length-map}
 use lib.Dec.{eqb}
 use lib.Ieee.{Float, binary64, to_bits}
 use borrow.Author.Tests.{eqb-true, eqb-false}
-use Rattle.base.specs.declared.Fault.{Fault}
-use Rattle.base.specs.Fault.{fault, clear, unless, or_else, section}
+use Rattle.base.specs.Fault.{Fault}
+use Rattle.base.specs.Fault.{fault, clear, unless, or_else, section, fault_of}
 use Rattle.base.specs.Order.{member, IsFirst}
 use Rattle.base.specs.Refusal.{SIZE, SWING, MODEL, VALUE}
 use Rattle.base.proofs.Firsts.{Clear, Spans, spans_unless, spans_or, or_go, or_stop}
@@ -102,11 +102,11 @@ module _ (ws : List ℕ) (xs : List Float) (columns : ℕ) (point : List Float) 
   row_values_refusal = refusal_first columns point lent_shared lent_rows (reading ws (patterns xs) columns)
 
   -- 17, and its place, exactly where the finder says so, whichever row is asked for
-  pub says_17 : (row p : ℕ) → (refused_by ws xs columns point lent_shared lent_rows ≡ fault MODEL p) ↔ ((find ws (length xs) columns row).fault ≡ fault MODEL p)
+  pub says_17 : (row p : ℕ) → (refused_by ws xs columns point lent_shared lent_rows ≡ fault MODEL p) ↔ (fault_of (find ws (length xs) columns row) ≡ fault MODEL p)
   unfolding refusal
   says_17 row p =
       let w = wrong_exactly ws (patterns xs) columns row p in
       let n : find ws (length (patterns xs)) columns row ≡ find ws (length xs) columns row = ap (λ k. find ws k columns row) (length-map xs (to_bits binary64)) in (
-        λ e. ap (λ x. x.fault) (sym n) ∙ w.0 (at_17 columns point lent_shared lent_rows (reading ws (patterns xs) columns) p e),
-        λ e. ap (refusal columns point lent_shared lent_rows) (w.1 (ap (λ x. x.fault) n ∙ e)),
+        λ e. ap fault_of (sym n) ∙ w.0 (at_17 columns point lent_shared lent_rows (reading ws (patterns xs) columns) p e),
+        λ e. ap (refusal columns point lent_shared lent_rows) (w.1 (ap fault_of n ∙ e)),
       )

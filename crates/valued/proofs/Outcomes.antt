@@ -9,7 +9,7 @@ use lib.ListN.{length, length-append}
 use lib.Dec.{eqb}
 use lib.Ieee.{Float}
 use borrow.Author.Tests.{eqb-true, eqb-false}
-use Rattle.base.specs.declared.Fault.{Fault}
+use Rattle.base.specs.Fault.{Fault}
 use Rattle.base.proofs.Firsts.{Clear}
 use Rattle.base.proofs.Left.{left_refused, left_front, left_rest}
 use Rattle.nl.specs.Expr.{Terms, none, more, count}

@@ -1,7 +1,7 @@
 -- Document 01: "A network is accepted when compile refuses nothing; its file is then the front parts that compile's counts name, and the
 -- column count." Here as row values take it: its constants as numbers, what reading it yields, and its refusal at a point.
 use Rattle.std.specs.Prelude.{ℕ, List, [], take, Float}
-use Rattle.base.specs.declared.Fault.{Fault}
+use Rattle.base.specs.Fault.{Fault}
 use Rattle.acopf.specs.Build.{terms}
 use Rattle.acopf.specs.Parts.{shared_parts}
 use Rattle.compile.specs.Compile.{compiled, constants_after}

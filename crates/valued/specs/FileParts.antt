@@ -1,6 +1,6 @@
 -- Document 02 (a): "14 and 19 come in file order, 14 first within one part, with its beginning word as the place".
 use Rattle.std.specs.Prelude.{ℕ, ◌+◌, ◌≡◌, true, List, [], ◌∷◌, ◌++◌, get_or, Float}
-use Rattle.base.specs.declared.Fault.{Fault}
+use Rattle.base.specs.Fault.{Fault}
 use Rattle.base.specs.Word.{word}
 use Rattle.float.specs.Number.{is_finite}
 use Rattle.nl.specs.Expr.{Expr, Terms, none, more}

@@ -2,7 +2,7 @@
 use Rattle.std.specs.Prelude.{ℕ, ◌≡◌, true, List, [], ◌∷◌, map, length, take, drop, Float}
 use Rattle.std.specs.Float.{binary64}
 use Rattle.std.specs.Float.Ieee.{of_bits}
-use Rattle.base.specs.declared.Fault.{Fault}
+use Rattle.base.specs.Fault.{Fault}
 use Rattle.base.specs.Fault.{clear}
 use Rattle.base.specs.Order.{member}
 use Rattle.base.specs.Refusal.{SIZE, SHORT, POINT, SWING, VALUE}

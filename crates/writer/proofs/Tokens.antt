@@ -1,5 +1,5 @@
 -- Laws of tokens: what they say of words, constants and parts, and writers one after the other.
-use Prim.Native.Nat.{ℕ, zero, suc, ◌+◌, ◌<◌}
+use Prim.Native.Nat.{ℕ, zero, suc, ◌+◌, ◌-◌, ◌<◌, ◌≤◌}
 use native.Mathlib.Nat.{add-zero, zero-add, le_of_suc-le-suc, not-suc-le-zero, eq-or-lt_of_le}
 use native.Mathlib.Numerals.{add-one}
 use native.Mathlib.Omega.{arith}
@@ -7,20 +7,23 @@ use mathlib.Core.Path.{◌≡◌, refl, sym, ap, subst, ◌∙◌}
 use mathlib.Core.Logic.{⊎_elim}
 use mathlib.Core.Bool.{cond}
 use mathlib.Core.List.{List, [], ◌∷◌, ◌++◌, map, append_assoc, append-nil}
-use lib.ListN.{length, take, get_or, length-append, length-map}
-use lib.Seq.{take-suc}
+use lib.ListN.{length, take, drop, get_or, length-append, length-map}
 use lib.Dec.{T, ltb}
-use lib.Ieee.{Float, binary64, of_bits, fits}
+use lib.Ieee.{Float, binary64, of_bits, fits, nan}
 use lib.Ieee.Bits.{of_bits-to_bits}
 use Rattle.base.specs.Loop.{loop, table, each}
 use Rattle.base.specs.Word.{word}
 use Rattle.nl.specs.Expr.{Expr, Terms, none, more, constant, column, shared, over, count, load_for, words, words_of, constants, constants_of, next}
 use Rattle.nl.specs.File.{part_words}
 use Rattle.acopf.specs.Build.{terms}
-use Rattle.writer.specs.declared.writer.Writer.{Writer}
+use Rattle.writer.specs.declared.writer.ModelWriter.{ModelWriter}
 use Rattle.base.specs.internal.Section.{Wrote}
-use Rattle.writer.specs.internal.Tokens.{Token, fixed, numbered, begins, words_from, numbers_of, begun, tokens, tokens_of, list_tokens, part_tokens, through_bits, Written, Room}
+use Rattle.writer.specs.internal.Tokens.{Token, fixed, numbered, begins, words_from, numbers_of, begun, tokens, tokens_of, list_tokens, part_tokens, through_bits, Put, Written, Room}
 use Rattle.base.proofs.Sections.{then, wrote_none}
+use Rattle.std.proofs.lemmas.Slice.{put_mid-paste}
+use Rattle.std.proofs.lemmas.List.Edits.{paste_all, sets-eq}
+use borrow.Rule.Slice.PartMut.{put_mid}
+use lib.Seq.{length-sets}
 
 -- ---- tokens of a list
 
@@ -52,21 +55,41 @@ words_append k i (begins x ∷ u) v =
     let e : i + 1 + begun u ≡ i + suc (begun u) = omega arith in
     ap (λ (l : List ℕ). word x i ∷ l) (words_append k (i + 1) u v ∙ ap (λ (n : ℕ). words_from k (i + 1) u ++ words_from (k + length (numbers_of u)) n v) e)
 
--- ---- writers one after the other
+-- ---- a section copied into a list
 
-pub written_none : (w : List ℕ) (c : List Float) (p : Writer) → Written w c p [] w c p
-written_none w c p = record { words = wrote_none w p.word; numbers = wrote_none c p.constant; parts = sym (add-zero _) }
-
-pub written_then : {w m w' : List ℕ} {c n c' : List Float} {p q p' : Writer} {u v : List Token} → Written w c p u m n q → Written m n q v w' c' p' → Written w c p (u ++ v) w' c' p'
-written_then {w} {m} {w'} {c} {n} {c'} {p} {q} {p'} {u} {v} a b = record {
-  words = subst (λ (l : List ℕ). Wrote w p.word l w' p'.word)
-      (rw (a.numbers.follows, a.parts) (sym (words_append p.constant p.part u v)))
-      (then a.words b.words);
-  numbers = subst (λ (l : List Float). Wrote c p.constant l c' p'.constant) (sym (numbers_append u v)) (then a.numbers b.numbers);
-  parts = omega (arith, a.parts, b.parts, begun_append u v);
+pub wrote_mid : {A : Type 0} (l : List A) {s t : List A} (to : ℕ) → t ≡ s → to + length s ≤ length l
+    → Wrote l to s (put_mid to (to + length s - to) l t) (to + length s)
+wrote_mid l {s} {t} to e h = record {
+  holds = put_mid-paste to (to + length s - to) l t s (length s) e (omega arith) refl ∙ paste_all l to s (length s) refl ∙ sym (sets-eq s l to h ∙ append_assoc (take to l) s (drop (to + length s) l));
+  follows = refl;
 }
 
-pub room_first : {w : List ℕ} {c : List Float} {p : Writer} (u v : List Token) → Room w c p (u ++ v) → Room w c p u
+pub wrote_length : {A : Type 0} {l m s : List A} {to k : ℕ} → Wrote l to s m k → length m ≡ length l
+wrote_length {A} {l} {m} {s} {to} w = ap length w.holds ∙ length-sets l to s
+
+-- ---- one writing after the other
+
+pub written_none : (p : ModelWriter) → Written p [] p
+written_none p = record {
+  words = wrote_none p.words.now p.word;
+  numbers = wrote_none p.constants.now p.constant;
+  parts = sym (add-zero _);
+  same_words = refl;
+  same_constants = refl;
+}
+
+pub written_then : {p q r : ModelWriter} {u v : List Token} → Written p u q → Written q v r → Written p (u ++ v) r
+written_then {p} {q} {r} {u} {v} a b = record {
+  words = subst (λ (l : List ℕ). Wrote p.words.now p.word l r.words.now r.word)
+      (rw (a.numbers.follows, a.parts) (sym (words_append p.constant p.part u v)))
+      (then a.words b.words);
+  numbers = subst (λ (l : List Float). Wrote p.constants.now p.constant l r.constants.now r.constant) (sym (numbers_append u v)) (then a.numbers b.numbers);
+  parts = omega (arith, a.parts, b.parts, begun_append u v);
+  same_words = b.same_words ∙ a.same_words;
+  same_constants = b.same_constants ∙ a.same_constants;
+}
+
+pub room_first : {p : ModelWriter} (u v : List Token) → Room p (u ++ v) → Room p u
 room_first u v r = record {
   words = omega (arith, r.words, length-append u v);
   numbers = omega (arith, r.numbers, ap length (numbers_append u v), length-append (numbers_of u) (numbers_of v));
@@ -74,12 +97,23 @@ room_first u v r = record {
   parts = omega (arith, r.parts, begun_append u v);
 }
 
-pub room_then : {w m : List ℕ} {c n : List Float} {p q : Writer} (u v : List Token) → Room w c p (u ++ v) → Written w c p u m n q → length m ≡ length w → length n ≡ length c → Room m n q v
-room_then {p = p} u v r a e d = record {
-  words = omega (arith, r.words, length-append u v, a.words.follows, length_words p.constant p.part u);
-  numbers = omega (arith, r.numbers, ap length (numbers_append u v), length-append (numbers_of u) (numbers_of v), a.numbers.follows);
+pub room_then : {p q : ModelWriter} (u v : List Token) → Room p (u ++ v) → Written p u q → Room q v
+room_then {p} {q} u v r a = record {
+  words = omega (arith, r.words, length-append u v, a.words.follows, length_words p.constant p.part u, wrote_length a.words);
+  numbers = omega (arith, r.numbers, ap length (numbers_append u v), length-append (numbers_of u) (numbers_of v), a.numbers.follows, wrote_length a.numbers);
   constants = omega (arith, r.constants, ap length (numbers_append u v), length-append (numbers_of u) (numbers_of v), a.numbers.follows);
   parts = omega (arith, r.parts, begun_append u v, a.parts);
+}
+
+-- what is put is tokens, where words, numbers and beginnings are theirs
+pub written_put : {p q : ModelWriter} {ws : List ℕ} {xs : List Float} {n : ℕ} (ts : List Token) → Put p ws xs n q
+    → ws ≡ words_from p.constant p.part ts → map through_bits xs ≡ numbers_of ts → n ≡ begun ts → Written p ts q
+written_put {p} {q} ts k w x n = record {
+  words = rw w at k.words;
+  numbers = rw x at k.numbers;
+  parts = rw n at k.parts;
+  same_words = k.same_words;
+  same_constants = k.same_constants;
 }
 
 -- ---- a loop's turn
@@ -105,17 +139,21 @@ module _ {A : Type 0} where
       (λ (lt : i < n). let r = each_split n i f lt in (r.0 ++ f n, rw (each_suc n f, r.1, append_assoc)))
       (eq-or-lt_of_le (le_of_suc-le-suc h))
 
-pub turns_none : (w : List ℕ) (c : List Float) (p : Writer) (f : ℕ → List Token) → Written w c p (each 0 f) w c p
-turns_none w c p f = rw (each_zero f) (written_none w c p)
+pub turns_none : (p : ModelWriter) (f : ℕ → List Token) → Written p (each 0 f) p
+turns_none p f = rw (each_zero f) (written_none p)
 
-pub turns_step : {w m w' : List ℕ} {c n c' : List Float} {p q p' : Writer} (f : ℕ → List Token) (i : ℕ) → Written w c p (each i f) m n q → Written m n q (f i) w' c' p' → Written w c p (each (i + 1) f) w' c' p'
+pub turns_step : {p q r : ModelWriter} (f : ℕ → List Token) (i : ℕ) → Written p (each i f) q → Written q (f i) r → Written p (each (i + 1) f) r
 turns_step f i a b = rw (each_more i f) (written_then a b)
 
+-- a turn that writes nothing
+pub turns_skip : {p q : ModelWriter} (f : ℕ → List Token) (i : ℕ) → f i ≡ [] → Written p (each i f) q → Written p (each (i + 1) f) q
+turns_skip f i e a = turns_step f i a (rw e (written_none _))
+
 -- room for all is room for the next
-pub turns_room : {w m : List ℕ} {c n : List Float} {p q : Writer} (k : ℕ) (f : ℕ → List Token) (i : ℕ) → i < k → Room w c p (each k f) → Written w c p (each i f) m n q → length m ≡ length w → length n ≡ length c → Room m n q (f i)
-turns_room k f i h r a e d =
+pub turns_room : {p q : ModelWriter} (k : ℕ) (f : ℕ → List Token) (i : ℕ) → i < k → Room p (each k f) → Written p (each i f) q → Room q (f i)
+turns_room k f i h r a =
     let s = each_split k i f h in
-    room_then (each i f) (f i) (room_first (each i f ++ f i) s.0 (rw s.1 at r)) a e d
+    room_then (each i f) (f i) (room_first (each i f ++ f i) s.0 (rw s.1 at r)) a
 
 -- ---- numbers by way of their bits
 
@@ -123,10 +161,9 @@ pub map_append : {A B : Type 0} (f : A → B) (u v : List A) → map f (u ++ v) 
 map_append f [] v = refl
 map_append f (a ∷ u) v = ap (λ l. f a ∷ l) (map_append f u v)
 
-pub bits_take : (xs : List Float) (i : ℕ) (d : Float) → i < length xs → T (fits binary64 (get_or xs i d)) → map through_bits (take i xs) ≡ take i xs → map through_bits (take (i + 1) xs) ≡ take (i + 1) xs
-bits_take xs i d h g e =
-    let t : take (i + 1) xs ≡ take i xs ++ (get_or xs i d ∷ []) = ap (λ (k : ℕ). take k xs) (add-one i) ∙ take-suc xs i d h in
-    rw (t, map_append through_bits (take i xs) (get_or xs i d ∷ []), e, of_bits-to_bits binary64 (get_or xs i d) g)
+pub bits_same : (xs : List Float) → ((i : ℕ) → T (fits binary64 (get_or xs i nan))) → map through_bits xs ≡ xs
+bits_same [] g = refl
+bits_same (x ∷ xs) g = rw (of_bits-to_bits binary64 x (g 0), bits_same xs (λ i. g (suc i)))
 
 -- ---- tokens of lists of expressions
 

@@ -1,8 +1,8 @@
 // The model file in the making: its words by kind and load, and the writer that goes through words and constants at once.
 #![tactic(auto)]
 
-pub mod word;
+mod word;
 mod writer;
 
-pub use word::model_word;
-pub use writer::{Writer, put};
+pub use word::WordKind;
+pub use writer::ModelWriter;

@@ -1,13 +1,11 @@
--- What compile knows before it writes: the answer, and where nothing is refused the network's layout and what is counted of it.
-use Rattle.std.specs.Prelude.{ℕ, ◌≡◌, List, Float}
-use Rattle.network.specs.Layout.{Laid}
-use Rattle.acopf.specs.Tallies.{Tallied}
-use Rattle.compile.specs.Compile.{compiled}
-use Rattle.compile.specs.declared.decide.Decision.{Decision}
-use Rattle.compile.specs.declared.decide.Decision.TheVariants.{Refused, Accepted}
+-- What compile says before it writes.
+use Rattle.std.specs.Prelude.{Result, Ok, Err}
+use Rattle.base.specs.Fault.{shown}
+use Rattle.base.specs.declared.refusal.Refusal.{Refusal}
+use Rattle.acopf.specs.declared.case.Case.{Case}
+use Rattle.compile.specs.declared.Compiled.{Compiled}
+use Rattle.compile.specs.Compile.{Answer, counted, refused}
 
--- the answer, where the seven lists have the lengths `lent`
-abbrev pub Decides : List ℕ → List Float → List ℕ → Decision → Type 0
-Decides ws xs lent (Refused answer) = (answer ≡ compiled ws xs lent) × (answer.fault.number ≡ 0 → ⊥)
-Decides ws xs lent (Accepted answer layout tallies) =
-    (answer ≡ compiled ws xs lent) × (answer.fault.number ≡ 0) × Laid ws xs layout × Tallied ws xs tallies
+abbrev pub decision_of : Result (Compiled × Case) Refusal → Answer
+decision_of (Ok d) = counted d.0
+decision_of (Err r) = refused (shown r)

@@ -1,4 +1,4 @@
--- The objective over plain numbers, and the end word.
+-- The objective over plain numbers.
 use Rattle.std.specs.Prelude.{ℕ, Bool, cond, List, [], ◌∷◌, ◌++◌, eqb, Float}
 use Rattle.std.specs.Float.{binary64}
 use Rattle.std.specs.Float.Ieee.{to_bits}
@@ -26,4 +26,4 @@ abbrev pub cost_count : Bool → ℕ → ℕ
 cost_count priced k = cond priced k 0
 
 unfoldable pub objective_tokens : List ℕ → List Float → ℕ → List Token
-objective_tokens ws xs count = (fixed (word 12 0) ∷ sum_head count) ++ (each count (cost_tokens ws xs) ++ (fixed (word 13 0) ∷ []))
+objective_tokens ws xs count = (fixed (word 12 0) ∷ sum_head count) ++ each count (cost_tokens ws xs)

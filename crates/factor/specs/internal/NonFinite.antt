@@ -2,7 +2,7 @@
 -- number can be is a law of proofs/Factors.
 use Rattle.std.specs.Prelude.{ℕ, ◌+◌, ◌*◌, not, ◌||◌, List, length, get_or, Float}
 use Rattle.std.specs.Float.{nan}
-use Rattle.base.specs.declared.Fault.{Fault}
+use Rattle.base.specs.Fault.{Fault}
 use Rattle.base.specs.Fault.{fault, unless, or_else, first}
 use Rattle.base.specs.Loop.{tally}
 use Rattle.base.specs.Refusal.{FACTOR}

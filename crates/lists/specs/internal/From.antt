@@ -1,7 +1,7 @@
 -- The first number that is not finite, of a list that stands behind others.
 use Rattle.std.specs.Prelude.{ℕ, ◌+◌, List, length, get_or, Float}
 use Rattle.std.specs.Float.{nan}
-use Rattle.base.specs.declared.Fault.{Fault}
+use Rattle.base.specs.Fault.{Fault}
 use Rattle.base.specs.Fault.{fault, unless, first}
 use Rattle.float.specs.Number.{is_finite}
 

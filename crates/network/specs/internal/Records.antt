@@ -1,5 +1,5 @@
 -- A bus and a generator by value, where a loop over the generators stands, and what reading a record gives.
-use Rattle.std.specs.Prelude.{ℕ, ◌+◌, ◌*◌, ◌≤◌, ◌<◌, ◌≡◌, Bool, List, length, Float}
+use Rattle.std.specs.Prelude.{ℕ, ◌+◌, ◌*◌, ◌≤◌, ◌<◌, ◌≡◌, Bool, List, length, Float, Option, Some, None}
 use Rattle.network.specs.declared.layout.Layout.{Layout}
 use Rattle.network.specs.declared.records.Bus.{Bus}
 use Rattle.network.specs.declared.records.Generator.{Generator}
@@ -64,3 +64,8 @@ pub record BranchRead (ws : List ℕ) (xs : List Float) (l : Layout) (b : ℕ) (
   pub is : r ≡ branch_record ws xs b
   pub from : r.from < l.buses
   pub to : r.to < l.buses
+
+-- one step over the generators, from generator i on: generator i with its number, and on to the next; after the last, nothing
+abbrev pub GeneratorStep : List ℕ → List Float → Layout → ℕ → Option (ℕ × Generator) → ℕ → Type 0
+GeneratorStep ws xs l i None next = (l.generators ≤ i) × (next ≡ i)
+GeneratorStep ws xs l i (Some (g, generator)) next = (i < l.generators) × (g ≡ i) × GeneratorRead ws xs l i generator × (next ≡ i + 1)

@@ -7,6 +7,10 @@ use Rattle.acopf.specs.Build.{subtract, multiply, square, cosine_of, sine_of, sc
 use Rattle.acopf.specs.Parts.{branch_parts}
 use Rattle.writer.specs.internal.Tokens.{Token, part_tokens}
 
+-- the square of a vm column
+abbrev pub square_tokens : ℕ → List Token
+square_tokens vm = part_tokens 10 (square (column vm) ∷ [])
+
 -- angle and voltage product
 abbrev pub angle_parts : ℕ → ℕ → ℕ → List Expr
 angle_parts n f t = subtract (column f) (column t) ∷ multiply (column (n + f)) (column (n + t)) ∷ []
@@ -19,19 +23,25 @@ product_parts first =
 abbrev pub voltage_parts : ℕ → ℕ → ℕ → ℕ → List Expr
 voltage_parts n first f t = angle_parts n f t ++ product_parts first
 
--- a flow at the bus i: coefficients of its vm squared, wr and wi
-abbrev pub flow_sum : ℕ → ℕ → Float → Float → Float → Expr
-flow_sum first i c d e = sum (scaled c (shared i) ∷ scaled d (shared (first + 2)) ∷ scaled e (shared (first + 3)) ∷ [])
+-- a flow at the bus i, by the three coefficients from j on of its vm squared, wr and wi
+abbrev pub flow_sum : ℕ → ℕ → List Float → ℕ → Expr
+flow_sum first i cs j =
+    sum (
+    scaled (get_or cs j nan) (shared i)
+    ∷ scaled (get_or cs (j + 1) nan) (shared (first + 2))
+    ∷ scaled (get_or cs (j + 2) nan) (shared (first + 3)) ∷ [])
 
--- p and q there, by six of the coefficients from j on
+-- p and q there, by the six coefficients from j on
 abbrev pub flow_parts : ℕ → ℕ → List Float → ℕ → List Expr
-flow_parts first i cs j =
-    flow_sum first i (get_or cs j nan) (get_or cs (j + 1) nan) (get_or cs (j + 2) nan)
-    ∷ flow_sum first i (get_or cs (j + 3) nan) (get_or cs (j + 4) nan) (get_or cs (j + 5) nan) ∷ []
+flow_parts first i cs j = flow_sum first i cs j ∷ flow_sum first i cs (j + 3) ∷ []
 
 abbrev pub all_parts : ℕ → ℕ → ℕ → ℕ → List Float → List Expr
 all_parts n first f t cs = voltage_parts n first f t ++ (flow_parts first f cs 0 ++ flow_parts first t cs 6)
 
+-- the shared parts of branch b
+abbrev pub branch_tokens : List ℕ → List Float → ℕ → List Token
+branch_tokens ws xs b = part_tokens 10 (branch_parts ws xs b)
+
 -- all shared parts of n buses and m branches
 unfoldable pub shared_tokens : List ℕ → List Float → ℕ → ℕ → List Token
-shared_tokens ws xs n m = each n (λ i. part_tokens 10 (square (column (n + i)) ∷ [])) ++ each m (λ b. part_tokens 10 (branch_parts ws xs b))
+shared_tokens ws xs n m = each n (λ i. square_tokens (n + i)) ++ each m (branch_tokens ws xs)

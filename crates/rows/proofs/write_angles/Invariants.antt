@@ -1,13 +1,16 @@
 use mathlib.Core.Path.{◌≡◌}
-use Prim.Native.Nat.{◌-◌, ◌≤◌}
+use Prim.Native.Nat.{◌+◌}
+use lib.Ieee.{Float}
 use lib.ListN.{length}
+use Rattle.base.specs.Loop.{tally}
 use Rattle.base.specs.internal.Section.{Wrote}
+use Rattle.network.specs.declared.records.Branch.{Branch}
+use Rattle.network.specs.Network.{angled}
 use Rattle.rows.specs.internal.Bounds.{angle_bounds}
 use Rattle.rows.proofs.write_angles.Given as goal
 
 abbrev pub invariant-loop-b : goal.invariant-loop-b
-invariant-loop-b l =
-    (l.b ≤ l.layout.branches) × (length l.out ≡ length l.initial.out) × Wrote l.initial.out l.at (angle_bounds l.words l.numbers l.side l.b) l.out l.next
-
-abbrev pub decreases-loop-b : goal.decreases-loop-b
-decreases-loop-b l = l.layout.branches - l.b
+invariant-loop-b g l =
+    (length l.out ≡ length l.initial.out) × (l.next ≡ l.at + tally l.b (angled l.tables.words.now))
+    × ((f : Branch → Float) → ((branch : Branch) (v : Float) → goal.F-post g l.angle branch v → v ≡ f branch)
+    → Wrote l.initial.out l.at (angle_bounds l.tables.words.now l.tables.numbers.now f l.b) l.out l.next)

@@ -1,14 +1,10 @@
-use Rattle.rows.proofs.Sides.{lower_is, lower_fits}
+use borrow.Author.Rules.{rules}
+use Rattle.network.specs.declared.records.Branch.{Branch}
+use Rattle.rows.proofs.Sides.{lower_is}
 use Rattle.rows.proofs.write_row_lower.Goals as goal
-
-pub write_bounds-requires : goal.write_bounds-requires
-write_bounds-requires c =
-    let args = c.args in
-    let pre = c.requires in
-    (pre.0, pre.1, lower_fits args.words.now args.numbers.now pre.0 pre.1 pre.2)
 
 pub returns : goal.returns
 returns c =
-    let args = c.args in
-    let pre = c.requires in
-    rw (lower_is args.words.now args.numbers.now pre.0 pre.1) c.write_bounds.ensures
+    let case = c.args.case.now in
+    rw (lower_is case.tables.words.now case.tables.numbers.now case.tables.laid case.tallied)
+    (c.write_bounds.ensures (λ (branch : Branch). branch.angle_min) (λ branch v p. search rules))

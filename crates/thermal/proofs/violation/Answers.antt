@@ -11,6 +11,3 @@ returns-then-far_below-2 c =
     sym (quick_violation a.p_from a.q_from a.p_to a.q_to a.s_max (subst T (sym g.0.1) tt) (subst T (sym g.1.0.1) tt) (subst T (sym g.1.1.0.1) tt)
     (subst T (sym g.1.1.1.0.1) tt) (subst T (sym g.1.1.1.1.0.1) tt) (above_signed a.s_max c.if-s_max.true)
     (sym c.far_below.ensures ∙ c.if-far_below.true) (sym c.far_below-then-far_below.ensures ∙ c.if-far_below-2.true))
-
-pub returns : goal.returns
-returns c = rw (c.maximum-2.ensures, c.maximum.ensures, c.hypot-at_to.ensures, c.hypot-at_from.ensures)

@@ -4,7 +4,7 @@ use Rattle.std.specs.Float.{binary64}
 use Rattle.std.specs.Float.Ieee.{of_bits, to_bits}
 use Rattle.base.specs.Word.{word}
 use Rattle.nl.specs.Expr.{Expr, Terms, none, more, constant, column, shared, over, count}
-use Rattle.writer.specs.declared.writer.Writer.{Writer}
+use Rattle.writer.specs.declared.writer.ModelWriter.{ModelWriter}
 use Rattle.base.specs.internal.Section.{Wrote}
 
 -- a word as it stands; a constant, by its 64 bits; the beginning of a shared part or row, by its kind
@@ -59,22 +59,25 @@ part_tokens kind (e ∷ es) = begins kind ∷ tokens e ++ part_tokens kind es
 abbrev pub through_bits : Float → Float
 through_bits x = of_bits binary64 (to_bits binary64 x)
 
--- words and numbers, in which n parts begin, were written from the writer's places on
-pub record Put (w : List ℕ) (c : List Float) (p : Writer) (ws : List ℕ) (xs : List Float) (n : ℕ)
-    (w' : List ℕ) (c' : List Float) (p' : Writer) : Type 0 where
-  pub words : Wrote w p.word ws w' p'.word
-  pub numbers : Wrote c p.constant (map through_bits xs) c' p'.constant
-  pub parts : p'.part ≡ p.part + n
+-- words and numbers, in which n parts begin, were written from the writer's places on, into the same lists
+pub record Put (p : ModelWriter) (ws : List ℕ) (xs : List Float) (n : ℕ) (q : ModelWriter) : Type 0 where
+  pub words : Wrote p.words.now p.word ws q.words.now q.word
+  pub numbers : Wrote p.constants.now p.constant (map through_bits xs) q.constants.now q.constant
+  pub parts : q.part ≡ p.part + n
+  pub same_words : q.words.ghost_name ≡ p.words.ghost_name
+  pub same_constants : q.constants.ghost_name ≡ p.constants.ghost_name
 
 -- the same of tokens
-pub record Written (w : List ℕ) (c : List Float) (p : Writer) (ts : List Token) (w' : List ℕ) (c' : List Float) (p' : Writer) : Type 0 where
-  pub words : Wrote w p.word (words_from p.constant p.part ts) w' p'.word
-  pub numbers : Wrote c p.constant (numbers_of ts) c' p'.constant
-  pub parts : p'.part ≡ p.part + begun ts
+pub record Written (p : ModelWriter) (ts : List Token) (q : ModelWriter) : Type 0 where
+  pub words : Wrote p.words.now p.word (words_from p.constant p.part ts) q.words.now q.word
+  pub numbers : Wrote p.constants.now p.constant (numbers_of ts) q.constants.now q.constant
+  pub parts : q.part ≡ p.part + begun ts
+  pub same_words : q.words.ghost_name ≡ p.words.ghost_name
+  pub same_constants : q.constants.ghost_name ≡ p.constants.ghost_name
 
 -- room for tokens in both lists, and running numbers that fit in 28 bits
-pub record Room (w : List ℕ) (c : List Float) (p : Writer) (ts : List Token) : Type 0 where
-  pub words : p.word + length ts ≤ length w
-  pub numbers : p.constant + length (numbers_of ts) ≤ length c
+pub record Room (p : ModelWriter) (ts : List Token) : Type 0 where
+  pub words : p.word + length ts ≤ length p.words.now
+  pub numbers : p.constant + length (numbers_of ts) ≤ length p.constants.now
   pub constants : p.constant + length (numbers_of ts) ≤ 268435456
   pub parts : p.part + begun ts ≤ 268435456

@@ -1,23 +1,33 @@
+use mathlib.Core.Path.{◌≡◌, sym, ap, ◌∙◌}
 use native.Mathlib.Omega.{arith}
-use mathlib.Core.Path.{◌≡◌, sym, ap}
 use Rattle.network.specs.Network.{generators}
 use Rattle.acopf.specs.Model.{objective_constant}
 use Rattle.acopf.proofs.Tallied.{costs_none, costs_turn}
 use Rattle.acopf.proofs.objective.objective_constant.Goals as goal
 
-pub loop-cursor-init : goal.loop-cursor-init
-loop-cursor-init c = (c.first_generator-cursor.ensures.0, rw c.first_generator-cursor.ensures.1 (sym (costs_none c.args.words.now c.args.numbers.now)))
+pub loop-generator-init : goal.loop-generator-init
+loop-generator-init c =
+    let items = c.generators-generator-items.ensures in
+    let e = c.into_iter-generator-iterator.ensures.into_iter_gives in
+    (ap (λ s. s.tables) e ∙ items.0, rw (e, items.1) (sym (costs_none c.args.tables.now.words.now c.args.tables.now.numbers.now)))
 
-pub loop-cursor-preserved : goal.loop-cursor-preserved
-loop-cursor-preserved c =
-    let next = c.next_generator-cursor.ensures in
-    let read = c.generator_of-generator.ensures in
-    (next.0, rw next.1 (costs_turn c.requires read c.with_cost-sum.ensures c.loop-cursor.invariant.1))
+pub loop-generator-preserved-then-tables-generator : goal.loop-generator-preserved-then-tables-generator
+loop-generator-preserved-then-tables-generator c =
+    let inv = c.loop-generator.invariant in
+    let step = rw inv.0 at c.in-Some.ensures.steps.0 in
+    (c.in-Some.ensures.steps.1 ∙ inv.0, rw step.3 (costs_turn c.args.tables.now.laid step.2 (rw c.if-tables-generator.true) inv.1))
+
+pub loop-generator-preserved : goal.loop-generator-preserved
+loop-generator-preserved c =
+    let inv = c.loop-generator.invariant in
+    let step = rw inv.0 at c.in-Some.ensures.steps.0 in
+    (c.in-Some.ensures.steps.1 ∙ inv.0, rw step.3 (costs_turn c.args.tables.now.laid step.2 (rw c.if-tables-generator.false) inv.1))
 
 pub returns : goal.returns
 unfolding objective_constant
 returns c =
-    let loop = c.loop-cursor in
-    let its = ap (λ l. l.generators) c.requires.words.is in
-    let e : loop.cursor.index ≡ generators c.args.words.now = omega (arith, its, loop.invariant.0.within, c.loop-cursor-test.false) in
-    rw e at loop.invariant.1
+    let inv = c.loop-generator.invariant in
+    let L = ap (λ l. l.generators) c.args.tables.now.laid.words.is in
+    let k = ap (λ t. t.layout.generators) inv.0 in
+    let e : c.loop-generator.generator-iterator.cursor.index ≡ generators c.args.tables.now.words.now = omega (arith, L, k, c.in-None.ensures.steps.0.0, c.loop-generator.generator-iterator.standing.within) in
+    rw e at inv.1

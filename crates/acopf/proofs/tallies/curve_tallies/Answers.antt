@@ -1,36 +1,39 @@
 use native.Mathlib.Omega.{arith}
-use mathlib.Core.Path.{◌≡◌, sym}
+use mathlib.Core.Path.{◌≡◌, sym, ap, ◌∙◌}
 use Rattle.acopf.proofs.Tallied.{epigraphs_none, segments_none, epigraphs_turn, segments_turn}
 use Rattle.acopf.proofs.tallies.curve_tallies.Goals as goal
 
-pub loop-cursor-init : goal.loop-cursor-init
-loop-cursor-init c =
-    let first = c.first_generator-cursor.ensures in
-    (first.0, rw first.1 (omega arith), rw first.1 (omega arith), rw first.1 (sym (epigraphs_none _)), rw first.1 (sym (segments_none _)))
+pub loop-generator-init : goal.loop-generator-init
+loop-generator-init c =
+    let items = c.generators-generator-items.ensures in
+    let e = c.into_iter-generator-iterator.ensures.into_iter_gives in
+    let zero : c.into_iter-generator-iterator.result.cursor.index ≡ 0 = ap (λ s. s.cursor.index) e ∙ items.1 in
+    (ap (λ s. s.tables) e ∙ items.0, omega arith, omega arith, rw zero (sym (epigraphs_none _)), rw zero (sym (segments_none _)))
 
 pub counted-epigraphs-requires : goal.counted-epigraphs-requires
-counted-epigraphs-requires c = omega (arith, c.requires.words.few_generators, c.loop-cursor.invariant.0.within, c.loop-cursor.invariant.1)
+counted-epigraphs-requires c =
+    let step = rw c.loop-generator.invariant.0 at c.in-Some.ensures.steps.0 in
+    omega (arith, c.args.tables.now.laid.words.few_generators, step.0, c.loop-generator.invariant.1)
 
 pub overflow_add-segments : goal.overflow_add-segments
 overflow_add-segments c =
-    let inv = c.loop-cursor.invariant in
-    let few = c.requires.words.few_generators in
-    omega (arith, few, inv.0.within, inv.2, c.row_segments-segments.ensures.1, c.generator_of-generator.ensures.points)
+    let step = rw c.loop-generator.invariant.0 at c.in-Some.ensures.steps.0 in
+    omega (arith, c.args.tables.now.laid.words.few_generators, step.0, c.loop-generator.invariant.2, c.row_segments-segments.ensures.1, step.2.points)
 
-pub loop-cursor-preserved : goal.loop-cursor-preserved
-loop-cursor-preserved c =
-    let inv = c.loop-cursor.invariant in
-    let read = c.generator_of-generator.ensures in
-    let next = c.next_generator-cursor.ensures in (
-      next.0,
-      rw next.1 (omega (arith, c.counted-epigraphs.ensures.1, inv.1)),
-      rw next.1 (omega (arith, c.row_segments-segments.ensures.1, read.points, inv.2)),
-      rw next.1 (epigraphs_turn read c.counted-epigraphs.ensures.0 inv.3),
-      rw next.1 (segments_turn read c.row_segments-segments.ensures.0 inv.4),
+pub loop-generator-preserved : goal.loop-generator-preserved
+loop-generator-preserved c =
+    let inv = c.loop-generator.invariant in
+    let step = rw inv.0 at c.in-Some.ensures.steps.0 in (
+      c.in-Some.ensures.steps.1 ∙ inv.0,
+      omega (arith, step.3, c.counted-epigraphs.ensures.1, inv.1),
+      omega (arith, step.3, c.row_segments-segments.ensures.1, step.2.points, inv.2),
+      rw step.3 (epigraphs_turn step.2 c.counted-epigraphs.ensures.0 inv.3),
+      rw step.3 (segments_turn step.2 c.row_segments-segments.ensures.0 inv.4),
     )
 
 pub returns : goal.returns
 returns c =
-    let inv = c.loop-cursor.invariant in
-    let e : c.loop-cursor.cursor.index ≡ c.args.layout.generators = omega (arith, inv.0.within, c.loop-cursor-test.false) in
+    let inv = c.loop-generator.invariant in
+    let k = ap (λ t. t.layout.generators) inv.0 in
+    let e : c.loop-generator.generator-iterator.cursor.index ≡ c.args.tables.now.layout.generators = omega (arith, k, c.in-None.ensures.steps.0.0, c.loop-generator.generator-iterator.standing.within) in
     rw (← e) (inv.3, inv.1, inv.4, inv.2)

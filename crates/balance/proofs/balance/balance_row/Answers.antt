@@ -1,30 +1,24 @@
-use native.Mathlib.Omega.{arith}
+use Prim.Native.Nat.{ℕ, ◌+◌}
 use mathlib.Core.List.{List}
-use Prim.Native.Nat.{◌+◌}
+use lib.ListN.{length, get_or}
 use Rattle.writer.specs.internal.Tokens.{Token}
-use Rattle.balance.specs.internal.Balance.{row_head}
-use Rattle.balance.specs.internal.Grouped.{listed_tokens}
-use Rattle.writer.proofs.Tokens.{written_then, room_first, room_then}
+use Rattle.writer.proofs.Tokens.{room_then, turns_none, turns_step, turns_room}
+use Rattle.balance.specs.declared.balance.Row.{Row}
+use Rattle.balance.specs.internal.Balance.{row_head, item_tokens, listed_tokens}
 use Rattle.balance.proofs.balance.balance_row.Goals as goal
 
-pub row_head-head-requires : goal.row_head-head-requires
-row_head-head-requires c =
-    let pre = c.requires in
-    let args = c.args in
-    let row = args.row in
-    let head : List Token = row_head (2 + args.span.size) row.bus row.demand row.shunt in
-    let rest : List Token = listed_tokens row args.items.now args.span in
-    (omega (arith, pre.3), omega (arith, pre.0), room_first head rest pre.6)
+abbrev turn : Row → List ℕ → ℕ → List Token
+turn row items s = item_tokens row (get_or items s 0)
 
-pub listed_terms-requires : goal.listed_terms-requires
-listed_terms-requires c =
-    let pre = c.requires in
-    let args = c.args in
-    let row = args.row in
-    let kept = c.row_head-head.auto in
-    let head : List Token = row_head (2 + args.span.size) row.bus row.demand row.shunt in
-    let rest : List Token = listed_tokens row args.items.now args.span in
-    (pre.4, pre.5, pre.1, pre.2, room_then head rest pre.6 c.row_head-head.ensures (omega (arith, kept)) (omega (arith, kept)))
+pub loop-item-init : goal.loop-item-init
+loop-item-init c = turns_none _ (turn c.args.row c.args.items.now)
 
-pub returns : goal.returns
-returns c = written_then c.row_head-head.ensures c.listed_terms.ensures
+pub item_term-requires-clause-room : goal.item_term-requires-clause-room
+item_term-requires-clause-room c =
+    let row = c.args.row in
+    let items = c.args.items.now in
+    let room = room_then (row_head row (2 + length items)) (listed_tokens row items) c.requires.room c.row_head.ensures in
+    turns_room _ (turn row items) _ c.loop-item-test.true room c.loop-item.invariant
+
+pub loop-item-preserved : goal.loop-item-preserved
+loop-item-preserved c = turns_step (turn c.args.row c.args.items.now) _ c.loop-item.invariant c.item_term.ensures

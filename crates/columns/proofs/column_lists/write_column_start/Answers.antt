@@ -1,23 +1,42 @@
+use mathlib.Core.Path.{ap}
+use mathlib.Core.Bool.{cond}
+use borrow.Author.Rules.{rules}
 use native.Mathlib.Omega.{arith}
-use Rattle.columns.proofs.Front.{columns_are, start_are}
+use lib.Ieee.{neg}
+use Rattle.float.specs.Number.{zero64}
+use Rattle.bounds.specs.Bounds.{huge64, finite_or, clamp_start}
+use Rattle.network.specs.declared.records.Bus.{Bus}
+use Rattle.network.specs.declared.records.Generator.{Generator}
+use Rattle.acopf.specs.Columns.{vm_lower, vm_upper, pg_lower, pg_upper, qg_lower, qg_upper, va_start, vm_start, pg_start, qg_start, epigraph_start, column_start}
+use Rattle.acopf.proofs.Counts.{start_columns}
+use Rattle.columns.proofs.Front.{columns_are, list_is}
 use Rattle.columns.proofs.column_lists.write_column_start.Goals as goal
 
-pub va_starts-vm-requires : goal.va_starts-vm-requires
-va_starts-vm-requires c = (c.requires.0, omega (arith, columns_are c.requires.0, c.requires.1))
+pub bus_section-vm-requires-clause-room : goal.bus_section-vm-requires-clause-room
+bus_section-vm-requires-clause-room c = omega (arith, columns_are c.args.tables.now.laid)
 
-pub bounded_sections-epigraph-requires : goal.bounded_sections-epigraph-requires
-bounded_sections-epigraph-requires c =
-    let pre = c.requires in
-    (pre.0, omega (arith, columns_are pre.0, pre.1, c.va_starts-vm.ensures.1, c.va_starts-vm.auto))
+pub bus_section-pg-requires-clause-room : goal.bus_section-pg-requires-clause-room
+bus_section-pg-requires-clause-room c = omega (arith, columns_are c.args.tables.now.laid)
 
-pub epigraph_starts-requires : goal.epigraph_starts-requires
-epigraph_starts-requires c =
-    let pre = c.requires in
-    let va = c.va_starts-vm in
-    let bounded = c.bounded_sections-epigraph in
-    (pre.0, omega (arith, columns_are pre.0, pre.1, va.ensures.1, va.auto, bounded.ensures.1, bounded.auto))
+pub generator_section-qg-requires-clause-room : goal.generator_section-qg-requires-clause-room
+generator_section-qg-requires-clause-room c = omega (arith, columns_are c.args.tables.now.laid)
+
+pub generator_section-epigraph-requires-clause-room : goal.generator_section-epigraph-requires-clause-room
+generator_section-epigraph-requires-clause-room c = omega (arith, columns_are c.args.tables.now.laid)
+
+pub epigraph_section-requires : goal.epigraph_section-requires
+epigraph_section-requires c = omega (arith, columns_are c.args.tables.now.laid)
 
 pub returns : goal.returns
+unfolding column_start va_start vm_start pg_start qg_start epigraph_start vm_lower vm_upper pg_lower pg_upper qg_lower qg_upper
 returns c =
-    let pre = c.requires in
-    start_are pre.0 pre.1 c.va_starts-vm.ensures.0 c.bounded_sections-epigraph.ensures.0 c.epigraph_starts.ensures
+    let tables = c.args.tables.now in
+    let ws = tables.words.now in
+    let xs = tables.numbers.now in
+    let n = ap (λ l. l.buses) tables.laid.words.is in
+    let k = ap (λ l. l.generators) tables.laid.words.is in
+    let va = c.bus_section-vm.ensures.section (λ (bus : Bus). finite_or bus.va zero64) (λ bus r p. search rules) in
+    let vm = c.bus_section-pg.ensures.section (λ (bus : Bus). clamp_start bus.vm (cond bus.bounded bus.vm_min zero64) (cond bus.bounded bus.vm_max huge64)) (λ bus r p. search rules) in
+    let pg = c.generator_section-qg.ensures.section (λ (g : Generator). clamp_start g.pg (cond g.bounded g.p_min (neg huge64)) (cond g.bounded g.p_max huge64)) (λ g r p. search rules) in
+    let qg = c.generator_section-epigraph.ensures.section (λ (g : Generator). clamp_start g.qg (cond g.bounded g.q_min (neg huge64)) (cond g.bounded g.q_max huge64)) (λ g r p. search rules) in
+    list_is (rw n at va) (rw n at vm) (rw k at pg) (rw k at qg) (rw k at c.epigraph_section.ensures) (omega (arith, start_columns ws xs, c.requires))

@@ -1,9 +1,9 @@
-use mathlib.Core.Path.{ap, ◌∙◌}
+use mathlib.Core.Path.{ap, sym, ◌∙◌}
 use Rattle.base.specs.Fault.{packed}
+use Rattle.compile.proofs.Answer.{fault_said}
 use Rattle.compile.proofs.boundary.fervoulk_compile.Goals as goal
 
 pub returns : goal.returns
 returns c =
-    let packed-is = c.packed.ensures ∙ ap (λ a. packed a.fault) c.compile-answer.ensures.0 in
     let is = c.compile-answer.ensures in
-    (packed-is, is.1, is.2)
+    (c.packed.ensures ∙ ap packed (sym (fault_said c.compile-answer.result) ∙ ap (λ a. a.fault) is.0), is.1, is.2)

@@ -1,32 +1,28 @@
+use mathlib.Core.Path.{refl, sym}
+use Rattle.std.proofs.lemmas.Result.{err_from_is_err_and}
+use Rattle.base.proofs.Refusals.{shown_number}
 use Rattle.acopf.proofs.Right.{tables_clear}
-use Rattle.compile.proofs.Answer.{decided_refused, decided_short, decided_accepted}
+use Rattle.compile.proofs.Answer.{network_exit, decided_short, decided_accepted}
 use Rattle.compile.proofs.decide.decided.Goals as goal
+
+pub returns-in_err-case-clause-answer : goal.returns-in_err-case-clause-answer
+returns-in_err-case-clause-answer c =
+    let p = err_from_is_err_and c.from_residual.result c.from_residual.ensures.1 in
+    rw (p.1, p.2) (network_exit _ _ _ _ c.in_err-case.ensures.fault)
 
 pub accepted-answer-requires : goal.accepted-answer-requires
 accepted-answer-requires c =
-    let ws = c.args.words.now in
-    let xs = c.args.numbers.now in
-    let j = c.in-Sound.ensures in
-    (j.1, j.2, tables_clear ws xs j.0)
+    let j = c.in_ok-case.ensures in rw (j.words, j.numbers) (tables_clear _ _ (sym j.fault))
 
-pub returns-then-too_short : goal.returns-then-too_short
-returns-then-too_short c =
-    let ws = c.args.words.now in
-    let xs = c.args.numbers.now in
-    let j = c.in-Sound.ensures in
-    decided_short ws xs j.0 _ c.accepted-answer.ensures c.short_fault-short.ensures c.if-too_short.true c.refused-then-too_short.ensures
+pub returns-in_err-short_fault-clause-answer : goal.returns-in_err-short_fault-clause-answer
+returns-in_err-short_fault-clause-answer c =
+    let j = c.in_ok-case.ensures in
+    let is = rw (j.words, j.numbers) at c.accepted-answer.ensures in
+    let p = err_from_is_err_and c.from_residual-in_err-short_fault.result c.from_residual-in_err-short_fault.ensures.1 in
+    rw (p.1, p.2) (decided_short _ _ j.fault _ is c.in_err-short_fault.ensures (shown_number c.in_err-short_fault.field-0.0))
 
-pub returns-in-Refused : goal.returns-in-Refused
-returns-in-Refused c =
-    let ws = c.args.words.now in
-    let xs = c.args.numbers.now in
-    let j = c.in-Refused.ensures in
-    decided_refused ws xs _ c.refused.ensures j.0 j.1
-
-pub returns-else-too_short : goal.returns-else-too_short
-returns-else-too_short c =
-    let ws = c.args.words.now in
-    let xs = c.args.numbers.now in
-    let j = c.in-Sound.ensures in
-    let d = decided_accepted ws xs j.0 _ c.accepted-answer.ensures c.short_fault-short.ensures c.if-too_short.false in
-    (d.0, d.1, j.1, j.2)
+pub returns-clause-answer : goal.returns-clause-answer
+returns-clause-answer c =
+    let j = c.in_ok-case.ensures in
+    let is = rw (j.words, j.numbers) at c.accepted-answer.ensures in
+    decided_accepted _ _ j.fault _ is c.in_ok-short_fault.ensures refl

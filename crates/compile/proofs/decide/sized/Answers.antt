@@ -1,24 +1,19 @@
+use mathlib.Core.Path.{sym, ◌∙◌}
+use Rattle.std.proofs.lemmas.Result.{err_from_is_err_and}
 use Rattle.acopf.proofs.Right.{tables_clear}
-use Rattle.compile.proofs.Answer.{sized_refused, sized_accepted}
+use Rattle.compile.proofs.Answer.{sized_exit, sized_accepted}
 use Rattle.compile.proofs.decide.sized.Goals as goal
+
+pub returns-in_err-case : goal.returns-in_err-case
+returns-in_err-case c =
+    let p = err_from_is_err_and c.from_residual.result c.from_residual.ensures.1 in
+    rw (p.1, p.2) (sized_exit _ _ _ c.in_err-case.ensures.fault)
 
 pub accepted-requires : goal.accepted-requires
 accepted-requires c =
-    let ws = c.args.words.now in
-    let xs = c.args.numbers.now in
-    let j = c.in-Sound.ensures in
-    (j.1, j.2, tables_clear ws xs j.0)
+    let j = c.in_ok-case.ensures in rw (j.words, j.numbers) (tables_clear _ _ (sym j.fault))
 
-pub returns-in-Refused : goal.returns-in-Refused
-returns-in-Refused c =
-    let ws = c.args.words.now in
-    let xs = c.args.numbers.now in
-    let j = c.in-Refused.ensures in
-    sized_refused ws xs c.refused.ensures j.0 j.1
-
-pub returns-in-Sound : goal.returns-in-Sound
-returns-in-Sound c =
-    let ws = c.args.words.now in
-    let xs = c.args.numbers.now in
-    let j = c.in-Sound.ensures in
-    sized_accepted ws xs j.0 c.accepted.ensures
+pub returns : goal.returns
+returns c =
+    let j = c.in_ok-case.ensures in
+    (rw (j.words, j.numbers) at c.accepted.ensures) ∙ sized_accepted _ _ j.fault

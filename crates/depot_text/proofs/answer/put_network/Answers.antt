@@ -1,30 +1,34 @@
+use mathlib.Core.Path.{sym}
 use native.Mathlib.Omega.{arith}
+use lib.Seq.{length-take-le}
 use Rattle.depot_text.proofs.Texts.{few_words, network_lines, network_refused}
 use Rattle.depot_text.proofs.answer.put_network.Goals as goal
 
+pub slice_bounds-model_words-end : goal.slice_bounds-model_words-end
+slice_bounds-model_words-end c =
+    let few = few_words _ _ c.in-Ok.answer c.in-Ok.ensures.0 in
+    omega (arith, few, c.compile_words.auto.model_words)
+
+pub slice_bounds-put_hex_lines-end : goal.slice_bounds-put_hex_lines-end
+slice_bounds-put_hex_lines-end c =
+    let few = few_words _ _ c.in-Ok.answer c.in-Ok.ensures.0 in
+    sym (length-take-le _ _ (omega (arith, few, c.compile_words.auto.model_words)))
+
 pub put_hex_lines-requires : goal.put_hex_lines-requires
 put_hex_lines-requires c =
-    let args = c.args in
-    let answer = c.compile_words-answer in
-    let few = few_words args.words.now args.numbers.now answer.result answer.ensures.0 c.if-answer-eq0.true in
-    (omega (arith, few, answer.auto.model_words), omega (arith, few, c.requires))
+    let few = few_words _ _ c.in-Ok.answer c.in-Ok.ensures.0 in
+    let e = length-take-le c.in-Ok.answer.words c.compile_words.new.model_words (omega (arith, few, c.compile_words.auto.model_words)) in
+    omega (arith, few, e, c.requires)
 
-pub returns-then-answer-eq0 : goal.returns-then-answer-eq0
-returns-then-answer-eq0 c =
-    let ws = c.args.words.now in
-    let xs = c.args.numbers.now in
-    let answer = c.compile_words-answer in
-    let clear = c.if-answer-eq0.true in
-    let few = few_words ws xs answer.result answer.ensures.0 clear in
-    let lines = network_lines ws xs answer.result answer.ensures.0 _ _ answer.ensures.1 clear in
+pub returns-in-Ok : goal.returns-in-Ok
+returns-in-Ok c =
+    let few = few_words _ _ c.in-Ok.answer c.in-Ok.ensures.0 in
+    let e = length-take-le c.in-Ok.answer.words c.compile_words.new.model_words (omega (arith, few, c.compile_words.auto.model_words)) in
+    let lines = network_lines _ _ c.in-Ok.answer c.in-Ok.ensures.0 _ _ c.compile_words.ensures.1 in
     let put = c.put_hex_lines.ensures in
-    (rw lines at put.0, omega (arith, few, put.1))
+    (rw lines at put.0, omega (arith, few, e, put.1))
 
-pub returns : goal.returns
-returns c =
-    let ws = c.args.words.now in
-    let xs = c.args.numbers.now in
-    let answer = c.compile_words-answer in
-    let refused = network_refused ws xs answer.result answer.ensures.0 c.if-answer-eq0.false in
+pub returns-in-Err : goal.returns-in-Err
+returns-in-Err c =
     let put = c.put_refused.ensures in
-    (rw refused at put.0, omega (arith, put.1))
+    (rw (network_refused _ _ c.in-Err.refusal c.in-Err.ensures.0) at put.0, omega (arith, put.1))

@@ -1,16 +1,10 @@
 use mathlib.Core.Path.{◌≡◌}
-use Prim.Native.Nat.{◌≤◌, ◌-◌, ◌+◌, ◌*◌}
+use Prim.Native.Nat.{◌+◌, ◌*◌}
 use lib.ListN.{length}
 use Rattle.base.specs.Loop.{table}
 use Rattle.base.specs.internal.Section.{Wrote}
-use Rattle.depot_text.specs.Input.{word_count, number_count}
 use Rattle.little_endian.specs.Bytes.{number_at}
 use Rattle.depot_text.proofs.input.read_numbers.Given as goal
 
 abbrev pub invariant-loop-i : goal.invariant-loop-i
-invariant-loop-i l =
-    (l.i ≤ l.count) × (l.count ≡ number_count l.bytes) × (l.first ≡ 8 + 4 * word_count l.bytes) × (l.first + 8 * l.count ≤ length l.bytes)
-    × (l.count ≤ length l.initial.numbers) × (length l.numbers ≡ length l.initial.numbers) × Wrote l.initial.numbers 0 (table l.i (λ j. number_at l.bytes (l.first + 8 * j))) l.numbers l.i
-
-abbrev pub decreases-loop-i : goal.decreases-loop-i
-decreases-loop-i l = l.count - l.i
+invariant-loop-i l = (length l.numbers ≡ length l.initial.numbers) × Wrote l.initial.numbers 0 (table l.i (λ j. number_at l.bytes (l.first + 8 * j))) l.numbers l.i

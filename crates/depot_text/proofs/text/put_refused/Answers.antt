@@ -7,7 +7,7 @@ pub returns : goal.returns
 unfolding refused_line
 returns c =
     let word = c.put-word.ensures in
-    let number = c.put_decimal-first.ensures in
+    let number = rw (c.from.ensures, c.number.ensures) at c.put_decimal-first.ensures in
     let space = c.put-space.ensures in
     let place = c.put_decimal-second.ensures in
     let end = c.put.ensures in (

@@ -1,162 +1,43 @@
 use native.Mathlib.Omega.{arith}
-use mathlib.Core.Path.{◌≡◌, refl, ap}
-use lib.ListN.{length-set}
+use mathlib.Core.Path.{◌≡◌, refl, ap, ◌∙◌}
 use Rattle.network.specs.Network.{generators}
+use Rattle.derived.specs.Outputs.{p_injection, q_injection}
 use Rattle.derived.proofs.Scratch.{injected_none, injected_all, kept_two}
 use Rattle.derived.proofs.Turns.{injected_turn}
 use Rattle.derived.proofs.bus.generation.Goals as goal
 
-pub first_generator-cursor-requires : goal.first_generator-cursor-requires
-first_generator-cursor-requires c =
-    let pre = c.requires in
-    pre.0.laid.words
+pub loop-g-init : goal.loop-g-init
+loop-g-init c =
+    let items = c.generators-g-items.ensures in
+    let e = c.into_iter-g-iterator.ensures.into_iter_gives in
+    let zero : c.into_iter-g-iterator.result.cursor.index ≡ 0 = ap (λ s. s.cursor.index) e ∙ items.1 in
+    (ap (λ s. s.tables) e ∙ items.0, rw zero (injected_none _ _ _ _ _ _ _ c.requires.1), λ j h. refl)
 
-pub loop-cursor-init : goal.loop-cursor-init
-loop-cursor-init c =
-    (c.first_generator-cursor.ensures.0, refl, λ p q P. rw c.first_generator-cursor.ensures.1 (injected_none _ _ _ _ p q _ P), λ j h. refl)
+pub pg-requires : goal.pg-requires
+pg-requires c =
+    let step = rw c.loop-g.invariant.0 at c.in-Some.ensures.steps.0 in
+    omega (arith, step.0, step.1)
 
-pub generator_of-generator-requires : goal.generator_of-generator-requires
-generator_of-generator-requires c =
-    let pre = c.requires in
-    let loop = c.loop-cursor in
-    (pre.0.laid, loop.invariant.0, c.loop-cursor-test.true)
+pub qg-requires : goal.qg-requires
+qg-requires c =
+    let step = rw c.loop-g.invariant.0 at c.in-Some.ensures.steps.0 in
+    omega (arith, step.0, step.1)
 
-pub offset_bounds-list-bus : goal.offset_bounds-list-bus
-offset_bounds-list-bus c =
-    let pre = c.requires in
-    let loop = c.loop-cursor in
-    omega (arith, pre.0.laid.words.few_buses, pre.0.laid.words.few_generators, pre.0.wide, pre.1, loop.invariant.1, c.loop-cursor-test.true, c.generator_of-generator.ensures.bus)
-
-pub bounds-list-bus : goal.bounds-list-bus
-bounds-list-bus c =
-    let pre = c.requires in
-    let loop = c.loop-cursor in
-    omega (arith, pre.0.laid.words.few_buses, pre.0.laid.words.few_generators, pre.0.wide, pre.1, loop.invariant.1, c.loop-cursor-test.true, c.generator_of-generator.ensures.bus)
-
-pub overflow_mul-list : goal.overflow_mul-list
-overflow_mul-list c =
-    let pre = c.requires in
-    let loop = c.loop-cursor in
-    omega (arith, pre.0.laid.words.few_buses, pre.0.laid.words.few_generators, pre.0.wide, pre.1, loop.invariant.1, c.loop-cursor-test.true, c.generator_of-generator.ensures.bus)
-
-pub overflow_add-list : goal.overflow_add-list
-overflow_add-list c =
-    let pre = c.requires in
-    let loop = c.loop-cursor in
-    omega (arith, pre.0.laid.words.few_buses, pre.0.laid.words.few_generators, pre.0.wide, pre.1, loop.invariant.1, c.loop-cursor-test.true, c.generator_of-generator.ensures.bus)
-
-pub offset_bounds-point-n : goal.offset_bounds-point-n
-offset_bounds-point-n c =
-    let pre = c.requires in
-    let loop = c.loop-cursor in
-    omega (arith, pre.0.laid.words.few_buses, pre.0.laid.words.few_generators, pre.0.wide, pre.1, loop.invariant.1, c.loop-cursor-test.true, c.generator_of-generator.ensures.bus)
-
-pub bounds-point-n : goal.bounds-point-n
-bounds-point-n c =
-    let pre = c.requires in
-    let loop = c.loop-cursor in
-    omega (arith, pre.0.laid.words.few_buses, pre.0.laid.words.few_generators, pre.0.wide, pre.1, loop.invariant.1, c.loop-cursor-test.true, c.generator_of-generator.ensures.bus)
-
-pub offset_bounds-list-bus-in-loop-cursor : goal.offset_bounds-list-bus-in-loop-cursor
-offset_bounds-list-bus-in-loop-cursor c =
-    let pre = c.requires in
-    let loop = c.loop-cursor in
-    omega (arith, pre.0.laid.words.few_buses, pre.0.laid.words.few_generators, pre.0.wide, pre.1, loop.invariant.1, c.loop-cursor-test.true, c.generator_of-generator.ensures.bus)
-
-pub bounds-list-bus-in-loop-cursor : goal.bounds-list-bus-in-loop-cursor
-bounds-list-bus-in-loop-cursor c =
-    let pre = c.requires in
-    let loop = c.loop-cursor in
-    omega (arith, pre.0.laid.words.few_buses, pre.0.laid.words.few_generators, pre.0.wide, pre.1, loop.invariant.1, c.loop-cursor-test.true, c.generator_of-generator.ensures.bus)
-
-pub overflow_add-list-in-loop-cursor : goal.overflow_add-list-in-loop-cursor
-overflow_add-list-in-loop-cursor c =
-    let pre = c.requires in
-    let loop = c.loop-cursor in
-    omega (arith, pre.0.laid.words.few_buses, pre.0.laid.words.few_generators, pre.0.wide, pre.1, loop.invariant.1, c.loop-cursor-test.true, c.generator_of-generator.ensures.bus)
-
-pub offset_bounds-list-n : goal.offset_bounds-list-n
-offset_bounds-list-n c =
-    let pre = c.requires in
-    let loop = c.loop-cursor in
-    omega (arith, pre.0.laid.words.few_buses, pre.0.laid.words.few_generators, pre.0.wide, pre.1, loop.invariant.1, c.loop-cursor-test.true, c.generator_of-generator.ensures.bus)
-
-pub bounds-list-n : goal.bounds-list-n
-bounds-list-n c =
-    let pre = c.requires in
-    let loop = c.loop-cursor in
-    simp length-set (omega (arith, pre.0.laid.words.few_buses, pre.0.laid.words.few_generators, pre.0.wide, pre.1, loop.invariant.1, c.loop-cursor-test.true, c.generator_of-generator.ensures.bus))
-
-pub overflow_mul-list-in-loop-cursor : goal.overflow_mul-list-in-loop-cursor
-overflow_mul-list-in-loop-cursor c =
-    let pre = c.requires in
-    let loop = c.loop-cursor in
-    omega (arith, pre.0.laid.words.few_buses, pre.0.laid.words.few_generators, pre.0.wide, pre.1, loop.invariant.1, c.loop-cursor-test.true, c.generator_of-generator.ensures.bus)
-
-pub overflow_add-list-in-loop-cursor-2 : goal.overflow_add-list-in-loop-cursor-2
-overflow_add-list-in-loop-cursor-2 c =
-    let pre = c.requires in
-    let loop = c.loop-cursor in
-    omega (arith, pre.0.laid.words.few_buses, pre.0.laid.words.few_generators, pre.0.wide, pre.1, loop.invariant.1, c.loop-cursor-test.true, c.generator_of-generator.ensures.bus)
-
-pub overflow_add-list-in-loop-cursor-3 : goal.overflow_add-list-in-loop-cursor-3
-overflow_add-list-in-loop-cursor-3 c =
-    let pre = c.requires in
-    let loop = c.loop-cursor in
-    omega (arith, pre.0.laid.words.few_buses, pre.0.laid.words.few_generators, pre.0.wide, pre.1, loop.invariant.1, c.loop-cursor-test.true, c.generator_of-generator.ensures.bus)
-
-pub offset_bounds-point-n-in-loop-cursor : goal.offset_bounds-point-n-in-loop-cursor
-offset_bounds-point-n-in-loop-cursor c =
-    let pre = c.requires in
-    let loop = c.loop-cursor in
-    omega (arith, pre.0.laid.words.few_buses, pre.0.laid.words.few_generators, pre.0.wide, pre.1, loop.invariant.1, c.loop-cursor-test.true, c.generator_of-generator.ensures.bus)
-
-pub bounds-point-n-in-loop-cursor : goal.bounds-point-n-in-loop-cursor
-bounds-point-n-in-loop-cursor c =
-    let pre = c.requires in
-    let loop = c.loop-cursor in
-    omega (arith, pre.0.laid.words.few_buses, pre.0.laid.words.few_generators, pre.0.wide, pre.1, loop.invariant.1, c.loop-cursor-test.true, c.generator_of-generator.ensures.bus)
-
-pub overflow_add-list-in-loop-cursor-4 : goal.overflow_add-list-in-loop-cursor-4
-overflow_add-list-in-loop-cursor-4 c =
-    let pre = c.requires in
-    let loop = c.loop-cursor in
-    omega (arith, pre.0.laid.words.few_buses, pre.0.laid.words.few_generators, pre.0.wide, pre.1, loop.invariant.1, c.loop-cursor-test.true, c.generator_of-generator.ensures.bus)
-
-pub offset_bounds-list-n-in-loop-cursor : goal.offset_bounds-list-n-in-loop-cursor
-offset_bounds-list-n-in-loop-cursor c =
-    let pre = c.requires in
-    let loop = c.loop-cursor in
-    omega (arith, pre.0.laid.words.few_buses, pre.0.laid.words.few_generators, pre.0.wide, pre.1, loop.invariant.1, c.loop-cursor-test.true, c.generator_of-generator.ensures.bus)
-
-pub bounds-list-n-in-loop-cursor : goal.bounds-list-n-in-loop-cursor
-bounds-list-n-in-loop-cursor c =
-    let pre = c.requires in
-    let loop = c.loop-cursor in
-    simp length-set (omega (arith, pre.0.laid.words.few_buses, pre.0.laid.words.few_generators, pre.0.wide, pre.1, loop.invariant.1, c.loop-cursor-test.true, c.generator_of-generator.ensures.bus))
-
-pub next_generator-cursor-requires : goal.next_generator-cursor-requires
-next_generator-cursor-requires c =
-    let pre = c.requires in
-    let loop = c.loop-cursor in
-    (pre.0.laid.words, loop.invariant.0, c.loop-cursor-test.true)
-
-pub loop-cursor-preserved : goal.loop-cursor-preserved
-loop-cursor-preserved c =
-    let args = c.args in
-    let pre = c.requires in
-    let loop = c.loop-cursor in
-    let G = c.generator_of-generator.ensures in (
-      c.next_generator-cursor.ensures.0,
-      simp length-set loop.invariant.1,
-      λ p q P. rw c.next_generator-cursor.ensures.1 (injected_turn args.point.now pre.0.laid G p q loop.list (omega (arith, pre.1, loop.invariant.1)) (loop.invariant.2 p q P)),
-      kept_two args.layout.buses args.list.now loop.list c.generator_of-generator.result.bus _ _ G.bus loop.invariant.3,
+pub loop-g-preserved : goal.loop-g-preserved
+loop-g-preserved c =
+    let loop = c.loop-g in
+    let inv = loop.invariant in
+    let step = rw inv.0 at c.in-Some.ensures.steps.0 in (
+      c.in-Some.ensures.steps.1 ∙ inv.0,
+      rw step.3 (injected_turn c.args.candidate.now.point.now step.2 (rw step.1 at c.pg.ensures) (rw step.1 at c.qg.ensures) _ _ loop.list (omega (arith, c.requires.0, loop.auto.list)) inv.1),
+      kept_two _ _ loop.list c.in-Some.generator.bus _ _ step.2.bus inv.2,
     )
 
 pub returns : goal.returns
+unfolding p_injection q_injection
 returns c =
-    let args = c.args in
-    let pre = c.requires in
-    let loop = c.loop-cursor in
-    let e : loop.cursor.index ≡ generators args.words.now = omega (arith, ap (λ z. z.generators) pre.0.laid.words.is, c.loop-cursor-test.false, loop.invariant.0.within) in
-    (λ p q P. injected_all _ _ _ _ p q _ _ e (loop.invariant.2 p q P), loop.invariant.3)
+    let inv = c.loop-g.invariant in
+    let k = ap (λ t. t.layout.generators) inv.0 in
+    let L = ap (λ z. z.generators) c.args.candidate.now.tables.laid.words.is in
+    let e : c.loop-g.g-iterator.cursor.index ≡ generators c.args.candidate.now.tables.words.now = omega (arith, L, k, c.in-None.ensures.steps.0.0, c.loop-g.g-iterator.standing.within) in
+    (injected_all _ _ _ _ _ _ _ _ e inv.1, inv.2)

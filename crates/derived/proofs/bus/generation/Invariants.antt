@@ -1,17 +1,16 @@
 use mathlib.Core.Path.{◌≡◌}
-use Prim.Native.Nat.{ℕ, ◌*◌, ◌-◌}
-use lib.Ieee.{Float}
-use lib.ListN.{length}
-use Rattle.network.specs.internal.Records.{Standing}
-use Rattle.derived.specs.internal.Agree.{PerBus, Untouched}
+use Prim.Native.Nat.{◌*◌}
+use Rattle.derived.specs.internal.Agree.{Untouched}
+use Rattle.derived.specs.internal.Scratch.{p_demand, q_demand}
 use Rattle.derived.specs.Outputs.{pg, qg}
 use Rattle.derived.proofs.Scratch.{Injected}
 use Rattle.derived.proofs.bus.generation.Given as goal
 
-abbrev pub invariant-loop-cursor : goal.invariant-loop-cursor
-invariant-loop-cursor l =
-    (Standing l.words l.layout l.cursor) × (length l.list ≡ length l.initial.list)
-    × ((p q : ℕ → Float) → PerBus l.n l.n p q l.initial.list → Injected l.words l.n (pg l.words l.point) (qg l.words l.point) p q l.list l.cursor.index) × Untouched (2 * l.n) l.initial.list l.list
-
-abbrev pub decreases-loop-cursor : goal.decreases-loop-cursor
-decreases-loop-cursor l = l.k - l.cursor.index
+abbrev pub invariant-loop-g : goal.invariant-loop-g
+invariant-loop-g l =
+    let ws = l.candidate.tables.words.now in
+    let xs = l.candidate.tables.numbers.now in
+    let x = l.candidate.point.now in
+    (l.g-iterator.tables ≡ l.candidate.tables)
+    × Injected ws l.n (pg ws x) (qg ws x) (p_demand ws xs x) (q_demand ws xs x) l.list l.g-iterator.cursor.index
+    × Untouched (2 * l.n) l.initial.list l.list

@@ -1,52 +1,32 @@
-use native.Mathlib.Omega.{arith}
+use Rattle.std.proofs.Common.{rules}
+use mathlib.Core.Path.{refl, ◌∙◌}
 use Rattle.base.proofs.Sections.{wrote_front}
-use Rattle.parts.specs.internal.Parts.{shared_tokens}
-use Rattle.emit.specs.internal.Whole.{row_tokens}
 use Rattle.emit.proofs.Whole.{room_shared, room_rows, both_words, both_numbers, words_at, numbers_at, few_words}
 use Rattle.emit.proofs.model.write_model.Goals as goal
 
-pub shared_parts-parts-requires : goal.shared_parts-parts-requires
-shared_parts-parts-requires c =
-    let args = c.args in
-    let pre = c.requires in
-    let ws = args.words.now in
-    let xs = args.numbers.now in
-    let us = shared_tokens ws xs args.layout.buses args.layout.branches in
-    let vs = row_tokens ws xs args.layout in
-    let words = words_at pre.0 in
-    let numbers = numbers_at pre.0 in
-    (pre.0, room_shared us vs _ _ words numbers _ _ pre.2 pre.3 (few_words pre.0))
+pub shared_parts-requires : goal.shared_parts-requires
+shared_parts-requires c =
+    let laid = c.args.case.now.tables.laid in
+    room_shared (record { word = refl; constant = refl; part = refl }) _ _ (words_at laid) (numbers_at laid) c.requires.words c.requires.constants (few_words laid)
 
 pub after_parts-requires : goal.after_parts-requires
 after_parts-requires c =
-    let args = c.args in
-    let pre = c.requires in
-    let ws = args.words.now in
-    let xs = args.numbers.now in
-    let us = shared_tokens ws xs args.layout.buses args.layout.branches in
-    let vs = row_tokens ws xs args.layout in
-    let words = words_at pre.0 in
-    let numbers = numbers_at pre.0 in
-    let parts = c.shared_parts-parts in
-    let room = room_rows us vs _ _ words numbers pre.2 pre.3 (few_words pre.0) parts.ensures (omega (arith, parts.auto)) (omega (arith, parts.auto)) in
-    (pre.0, room)
+    let laid = c.args.case.now.tables.laid in
+    room_rows (record { word = refl; constant = refl; part = refl }) _ _ (words_at laid) (numbers_at laid) c.requires.words c.requires.constants (few_words laid)
+    c.shared_parts.ensures
 
-pub shape_of-model_words : goal.shape_of-model_words
-shape_of-model_words c = omega (arith, c.shared_parts-parts.auto, c.after_parts.auto)
+pub returns-clause-words : goal.returns-clause-words
+returns-clause-words c =
+    let laid = c.args.case.now.tables.laid in
+    let whole = both_words (record { word = refl; constant = refl; part = refl }) _ _ (words_at laid) (numbers_at laid) c.shared_parts.ensures c.after_parts.ensures in
+    let front = wrote_front whole c.requires.words in
+    let same = c.after_parts.ensures.same_words ∙ c.shared_parts.ensures.same_words in
+    search rules
 
-pub shape_of-constants : goal.shape_of-constants
-shape_of-constants c = omega (arith, c.shared_parts-parts.auto, c.after_parts.auto)
-
-pub returns : goal.returns
-returns c =
-    let args = c.args in
-    let pre = c.requires in
-    let ws = args.words.now in
-    let xs = args.numbers.now in
-    let us = shared_tokens ws xs args.layout.buses args.layout.branches in
-    let vs = row_tokens ws xs args.layout in
-    let words = words_at pre.0 in
-    let numbers = numbers_at pre.0 in
-    let first = c.shared_parts-parts.ensures in
-    let second = c.after_parts.ensures in
-    (wrote_front (both_words us vs _ _ words numbers first second) pre.2, wrote_front (both_numbers us vs _ _ words numbers first second) pre.3)
+pub returns-clause-constants : goal.returns-clause-constants
+returns-clause-constants c =
+    let laid = c.args.case.now.tables.laid in
+    let whole = both_numbers (record { word = refl; constant = refl; part = refl }) _ _ (words_at laid) (numbers_at laid) c.shared_parts.ensures c.after_parts.ensures in
+    let front = wrote_front whole c.requires.constants in
+    let same = c.after_parts.ensures.same_constants ∙ c.shared_parts.ensures.same_constants in
+    search rules

@@ -1,67 +1,67 @@
+use mathlib.Core.Path.{◌≡◌, ap, ◌∙◌}
 use native.Mathlib.Omega.{arith}
-use mathlib.Core.Path.{ap, ◌∙◌}
-use Rattle.base.proofs.Turns.{first_none, first_step, first_here, first_done}
+use Rattle.base.proofs.Turns.{first_none, first_done}
 use Rattle.acopf.proofs.Tallied.{segments_none}
 use Rattle.factor.specs.internal.NonFinite.{curves_factor}
 use Rattle.factor.proofs.Turns.{segment_fits, curve_read, place_read, curve_proper}
+use Rattle.base.proofs.Refusals.{first_pass, first_exit}
 use Rattle.factor.proofs.factor.curves_factor.Goals as goal
 
-pub loop-cursor-init : goal.loop-cursor-init
-loop-cursor-init c =
-    let first = c.first_generator-cursor.ensures in (
-      first.0,
-      rw first.1 (omega (arith, segments_none c.args.words.now)),
-      omega arith,
-      rw first.1 (first_none _),
-    )
+pub loop-generator-init : goal.loop-generator-init
+loop-generator-init c =
+    let items = c.generators-generator-items.ensures in
+    let e = c.into_iter-generator-iterator.ensures.into_iter_gives in
+    let zero : c.into_iter-generator-iterator.result.cursor.index ≡ 0 = ap (λ s. s.cursor.index) e ∙ items.1 in
+    (ap (λ s. s.tables) e ∙ items.0, rw zero (omega (arith, segments_none c.args.tables.now.words.now)), omega arith, rw zero (first_none _))
 
-pub segments_fault-f-requires : goal.segments_fault-f-requires
-segments_fault-f-requires c =
-    let pre = c.requires in
-    let inv = c.loop-cursor.invariant in
-    let generator = c.generator_of-generator in
+pub segments_fault-requires : goal.segments_fault-requires
+segments_fault-requires c =
+    let inv = c.loop-generator.invariant in
+    let step = rw inv.0 at c.in-Some.ensures.steps.0 in
     let count = c.row_segments-count.ensures in (
-      λ s l. omega (arith, count.0, segment_fits generator.result.curved count.0 l, generator.ensures.curve),
-      omega (arith, count.1, generator.ensures.points),
-      omega (arith, pre.1, inv.2, inv.0.within, pre.0.words.few_generators),
+      λ s l. omega (arith, count.0, segment_fits c.in-Some.generator.curved count.0 l, step.2.curve),
+      omega (arith, count.1, step.2.points),
+      omega (arith, c.requires, inv.2, step.0, c.args.tables.now.laid.words.few_generators),
     )
 
-pub returns-then-f-ne0 : goal.returns-then-f-ne0
+pub returns-in_err-segments_fault : goal.returns-in_err-segments_fault
 unfolding curves_factor
-returns-then-f-ne0 c =
-    let inv = c.loop-cursor.invariant in
-    let g = ap (λ l. l.generators) c.requires.0.words.is in
-    let count = c.row_segments-count.ensures.0 in
-    let turn = c.segments_fault-f.ensures ∙ curve_read c.args.start c.generator_of-generator.ensures count inv.1 in
-    first_here _ _ _ _ (rw (← g) c.loop-cursor-test.true) inv.3 turn c.if-f-ne0.true
+returns-in_err-segments_fault c =
+    let inv = c.loop-generator.invariant in
+    let step = rw inv.0 at c.in-Some.ensures.steps.0 in
+    let g = ap (λ l. l.generators) c.args.tables.now.laid.words.is in
+    let turn = c.in_err-segments_fault.ensures ∙ curve_read c.args.start step.2 c.row_segments-count.ensures.0 inv.1 in
+    first_exit _ _ _ _ _ c.from_residual.ensures.1 (rw (← g) step.0) inv.3 turn
 
 pub overflow_mul-place : goal.overflow_mul-place
-overflow_mul-place c = omega (arith, c.row_segments-count.ensures.1, c.generator_of-generator.ensures.points)
+overflow_mul-place c =
+    let step = rw c.loop-generator.invariant.0 at c.in-Some.ensures.steps.0 in
+    omega (arith, c.row_segments-count.ensures.1, step.2.points)
 
 pub overflow_add-place : goal.overflow_add-place
 overflow_add-place c =
-    let pre = c.requires in
-    let inv = c.loop-cursor.invariant in
-    let few = pre.0.words.few_generators in
-    omega (arith, c.row_segments-count.ensures.1, c.generator_of-generator.ensures.points, pre.1, inv.2, inv.0.within, few)
+    let inv = c.loop-generator.invariant in
+    let step = rw inv.0 at c.in-Some.ensures.steps.0 in
+    omega (arith, c.row_segments-count.ensures.1, step.2.points, c.requires, inv.2, step.0, c.args.tables.now.laid.words.few_generators)
 
-pub loop-cursor-preserved : goal.loop-cursor-preserved
-loop-cursor-preserved c =
+pub loop-generator-preserved : goal.loop-generator-preserved
+loop-generator-preserved c =
+    let inv = c.loop-generator.invariant in
+    let step = rw inv.0 at c.in-Some.ensures.steps.0 in
     let start = c.args.start in
-    let inv = c.loop-cursor.invariant in
-    let read = c.generator_of-generator.ensures in
-    let next = c.next_generator-cursor.ensures in
     let count = c.row_segments-count.ensures in
-    let turn = c.segments_fault-f.ensures ∙ curve_read start read count.0 inv.1 in (
-      next.0,
-      rw next.1 (place_read start read count.0 inv.1),
-      rw next.1 (omega (arith, count.1, read.points, inv.2)),
-      rw next.1 (first_step _ _ _ inv.3 turn c.if-f-ne0.false),
+    let turn = c.in_ok-segments_fault.ensures ∙ curve_read start step.2 count.0 inv.1 in (
+      c.in-Some.ensures.steps.1 ∙ inv.0,
+      rw step.3 (place_read start step.2 count.0 inv.1),
+      omega (arith, step.3, count.1, step.2.points, inv.2),
+      rw step.3 (first_pass _ _ inv.3 turn),
     )
 
 pub returns : goal.returns
 unfolding curves_factor
 returns c =
-    let inv = c.loop-cursor.invariant in
-    let g = ap (λ l. l.generators) c.requires.0.words.is in
-    first_done _ _ _ (rw (← g) (omega (arith, c.loop-cursor-test.false))) (curve_proper _ _ _) inv.3
+    let inv = c.loop-generator.invariant in
+    let g = ap (λ l. l.generators) c.args.tables.now.laid.words.is in
+    let k = ap (λ t. t.layout.generators) inv.0 in
+    let e : c.args.tables.now.layout.generators ≡ c.loop-generator.generator-iterator.cursor.index = omega (arith, k, c.in-None.ensures.steps.0.0, c.loop-generator.generator-iterator.standing.within) in
+    first_done _ _ _ (rw (← g) e) (curve_proper _ _ _) inv.3

@@ -1,16 +1,16 @@
 use mathlib.Core.Path.{sym, ◌∙◌}
-use Rattle.base.proofs.Turns.{link_go, link_stop}
 use Rattle.factor.proofs.Factors.{factor_is}
+use Rattle.base.proofs.Refusals.{link_exit, link_ok}
 use Rattle.factor.proofs.factor.factor_fault.Goals as goal
 
-pub returns-then-branch-ne0 : goal.returns-then-branch-ne0
-returns-then-branch-ne0 c =
-    let args = c.args in
-    let four = factor_is args.words.now args.numbers.now c.requires.2 c.type_inv.numbers in
-    link_stop _ _ _ _ four c.branches_factor-branch.ensures c.if-branch-ne0.true
+pub returns-in_err-branches_factor : goal.returns-in_err-branches_factor
+returns-in_err-branches_factor c =
+    let case = c.args.case.now in
+    let four = factor_is case.tables.words.now case.tables.numbers.now c.requires case.tables.laid.doubles in
+    link_exit _ _ _ _ _ c.from_residual.ensures.1 four c.in_err-branches_factor.ensures
 
 pub returns : goal.returns
 returns c =
-    let args = c.args in
-    let four = factor_is args.words.now args.numbers.now c.requires.2 c.type_inv.numbers in
-    c.curves_on.ensures ∙ sym (link_go _ _ _ _ four c.branches_factor-branch.ensures c.if-branch-ne0.false)
+    let case = c.args.case.now in
+    let four = factor_is case.tables.words.now case.tables.numbers.now c.requires case.tables.laid.doubles in
+    c.curves_on.ensures ∙ sym (link_ok _ _ _ four c.in_ok-branches_factor.ensures)

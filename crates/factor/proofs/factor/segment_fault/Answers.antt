@@ -1,24 +1,11 @@
-use Rattle.base.specs.Fault.{unless, or_else}
+use mathlib.Core.Path.{refl, sym, ◌∙◌}
+use Rattle.base.proofs.Refusals.{link_exit, link_ok}
 use Rattle.factor.proofs.factor.segment_fault.Goals as goal
 
-pub returns-then-not-is_finite : goal.returns-then-not-is_finite
-unfolding unless or_else
-returns-then-not-is_finite c = rw (← c.slope_of.ensures, ← c.is_finite.ensures, c.if-not-is_finite.true)
-
-pub returns-then-not-is_finite-2 : goal.returns-then-not-is_finite-2
-unfolding unless or_else
-returns-then-not-is_finite-2 c =
-    let finite = c.is_finite in
-    let finite2 = c.is_finite-2 in
-    let first = c.if-not-is_finite.false in
-    let second = c.if-not-is_finite-2.true in
-    rw (← c.slope_of.ensures, ← finite.ensures, first, ← c.intercept_of.ensures, ← finite2.ensures, second)
+pub returns-in_err-unless : goal.returns-in_err-unless
+returns-in_err-unless c = link_exit _ _ _ _ _ c.from_residual.ensures.1 refl (rw (c.is_finite-slope.ensures, c.slope_of.ensures) at c.in_err-unless.ensures)
 
 pub returns : goal.returns
-unfolding unless or_else
 returns c =
-    let finite = c.is_finite in
-    let finite2 = c.is_finite-2 in
-    let first = c.if-not-is_finite.false in
-    let second = c.if-not-is_finite-2.false in
-    rw (← c.slope_of.ensures, ← finite.ensures, first, ← c.intercept_of.ensures, ← finite2.ensures, second)
+    (rw (c.is_finite-intercept.ensures, c.intercept_of.ensures) at c.unless-2.ensures)
+    ∙ sym (link_ok _ _ _ refl (rw (c.is_finite-slope.ensures, c.slope_of.ensures) at c.in_ok-unless.ensures))

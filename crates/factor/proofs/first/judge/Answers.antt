@@ -1,38 +1,22 @@
-use Rattle.tables.proofs.Laid.{formed_tables}
-use Rattle.factor.proofs.Refusal.{tables_clear, judged_tables, judged_factor, judged_clear}
+use mathlib.Core.Path.{sym, ap, ◌∙◌}
+use Rattle.acopf.proofs.Order.{network_is}
+use Rattle.base.proofs.Refusals.{exit_shown, link_exit, link_ok}
 use Rattle.factor.proofs.first.judge.Goals as goal
 
-pub returns-then-refusal-ne0 : goal.returns-then-refusal-ne0
-returns-then-refusal-ne0 c =
-    let args = c.args in
-    (judged_tables args.words.now args.numbers.now c.tables_of-tables.ensures.fault c.if-refusal-ne0.true, c.if-refusal-ne0.true)
+pub returns-in_err-tables-clause-fault : goal.returns-in_err-tables-clause-fault
+returns-in_err-tables-clause-fault c = link_exit _ _ _ _ _ c.from_residual.ensures.1 (network_is _ _) c.in_err-tables.ensures.fault
 
-pub tallies_of-tallies-requires : goal.tallies_of-tallies-requires
-tallies_of-tallies-requires c = formed_tables c.tables_of-tables.ensures c.type_inv.numbers c.if-refusal-ne0.false
+pub factor_fault-requires : goal.factor_fault-requires
+factor_fault-requires c =
+    let t = c.in_ok-tables.ensures in rw (c.new-case.ensures, t.words, t.numbers) (ap (λ f. f.number) (sym t.fault))
 
-pub factor_fault-factor-requires : goal.factor_fault-factor-requires
-factor_fault-factor-requires c =
-    let args = c.args in
-    let tables = c.tables_of-tables.ensures in
-    let none = c.if-refusal-ne0.false in (
-      formed_tables tables c.type_inv.numbers none,
-      c.tallies_of-tallies.ensures,
-      tables_clear args.words.now args.numbers.now tables.fault none,
-    )
+pub returns-in_err-factor_fault-clause-fault : goal.returns-in_err-factor_fault-clause-fault
+returns-in_err-factor_fault-clause-fault c =
+    let t = c.in_ok-tables.ensures in
+    exit_shown _ _ c.from_residual-in_err-factor_fault.ensures.1 ∙ (rw (c.new-case.ensures, t.words, t.numbers) at c.in_err-factor_fault.ensures)
+    ∙ sym (link_ok _ _ _ (network_is _ _) t.fault)
 
-pub returns-then-factor-ne0 : goal.returns-then-factor-ne0
-returns-then-factor-ne0 c =
-    let args = c.args in
-    let right = tables_clear args.words.now args.numbers.now c.tables_of-tables.ensures.fault c.if-refusal-ne0.false in
-    (judged_factor args.words.now args.numbers.now right c.factor_fault-factor.ensures, c.if-factor-ne0.true)
-
-pub returns : goal.returns
-returns c =
-    let args = c.args in
-    let tables = c.tables_of-tables.ensures in
-    let none = c.if-refusal-ne0.false in
-    let right = tables_clear args.words.now args.numbers.now tables.fault none in (
-      judged_clear args.words.now args.numbers.now right c.factor_fault-factor.ensures c.if-factor-ne0.false,
-      formed_tables tables c.type_inv.numbers none,
-      c.tallies_of-tallies.ensures,
-    )
+pub returns-clause-fault : goal.returns-clause-fault
+returns-clause-fault c =
+    let t = c.in_ok-tables.ensures in
+    (rw (c.new-case.ensures, t.words, t.numbers) at c.in_ok-factor_fault.ensures) ∙ sym (link_ok _ _ _ (network_is _ _) t.fault)

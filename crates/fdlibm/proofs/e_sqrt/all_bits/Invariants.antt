@@ -1,11 +1,7 @@
 use mathlib.Core.Path.{◌≡◌}
-use Prim.Native.Nat.{◌-◌, ◌≤◌, ◌^◌}
-use Rattle.fdlibm.specs.Sqrt.{bit_by_bit, start}
-use Rattle.fdlibm.proofs.Turns.{Good}
+use Rattle.fdlibm.specs.Sqrt.{start}
+use Rattle.fdlibm.proofs.Turns.{Good, turns}
 use Rattle.fdlibm.proofs.e_sqrt.all_bits.Given as goal
 
-abbrev pub invariant-loop-i : goal.invariant-loop-i
-invariant-loop-i l = (l.i ≤ 54) × Good (54 - l.i) l.r l.v × (bit_by_bit (54 - l.i) l.r l.v ≡ bit_by_bit 54 (2 ^ 53) (start l.ix))
-
-abbrev pub decreases-loop-i : goal.decreases-loop-i
-decreases-loop-i l = 54 - l.i
+abbrev pub invariant-loop-place : goal.invariant-loop-place
+invariant-loop-place l = Good l.place l.v × (turns l.place l.v ≡ turns 54 (start l.ix))

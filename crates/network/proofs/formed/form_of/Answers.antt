@@ -1,21 +1,21 @@
 use mathlib.Core.Path.{refl, sym, ◌∙◌}
-use Rattle.base.proofs.Turns.{link_go, link_stop}
+use Rattle.base.proofs.Refusals.{exit_shown, link_exit, link_ok}
 use Rattle.network.specs.Fault.{form_fault}
-use Rattle.network.proofs.Forms.{formed_stop, formed_clear, formed_words}
+use Rattle.network.proofs.Forms.{words_laid}
 use Rattle.network.proofs.formed.form_of.Goals as goal
 
-pub returns-then-form-ne0 : goal.returns-then-form-ne0
+pub returns-in_err-layout-clause-fault : goal.returns-in_err-layout-clause-fault
 unfolding form_fault
-returns-then-form-ne0 c = formed_stop refl (link_stop _ _ _ _ refl c.words_form-form.ensures.fault c.if-form-ne0.true) c.if-form-ne0.true
+returns-in_err-layout-clause-fault c = link_exit _ _ _ _ _ c.from_residual.ensures.1 refl c.in_err-layout.ensures.fault
 
 pub count_fault-requires : goal.count_fault-requires
-count_fault-requires c = formed_words c.words_form-form.ensures c.if-form-ne0.false
+count_fault-requires c = words_laid c.in_ok-layout.ensures.fault c.in_ok-layout.ensures.layout
 
-pub returns : goal.returns
+pub returns-in_err-count_fault-clause-fault : goal.returns-in_err-count_fault-clause-fault
 unfolding form_fault
-returns c =
-    let form = c.words_form-form.ensures in
-    record {
-      fault = c.count_fault.ensures ∙ sym (link_go _ _ _ _ refl form.fault c.if-form-ne0.false);
-      layout = λ h. form.layout (formed_clear form c.if-form-ne0.false);
-    }
+returns-in_err-count_fault-clause-fault c =
+    exit_shown _ _ c.from_residual-in_err-count_fault.ensures.1 ∙ c.in_err-count_fault.ensures ∙ sym (link_ok _ _ _ refl c.in_ok-layout.ensures.fault)
+
+pub returns-clause-fault : goal.returns-clause-fault
+unfolding form_fault
+returns-clause-fault c = c.in_ok-count_fault.ensures ∙ sym (link_ok _ _ _ refl c.in_ok-layout.ensures.fault)

@@ -23,7 +23,7 @@ pub overflow_mul-at : goal.overflow_mul-at
 overflow_mul-at c = omega (arith, (limits _ c.requires.3).1, c.requires.0)
 
 pub loop-g-init : goal.loop-g-init
-loop-g-init c = (omega arith, rw c.requires.0 (sym (generator_zero _)))
+loop-g-init c = rw c.requires.0 (sym (generator_zero _))
 
 pub overflow_add-n : goal.overflow_add-n
 overflow_add-n c = omega (arith, (limits _ c.requires.3).1, c.requires.0)
@@ -40,10 +40,10 @@ bounds-words-n c = omega (arith, words_length _ c.requires.2, c.requires.0, c.re
 pub record_end-at-requires : goal.record_end-at-requires
 record_end-at-requires c =
     let pre = c.requires in
-    let h = room _ _ _ _ _ _ pre.0 pre.1 pre.3 c.loop-g.invariant.1 c.generator_points-points.ensures c.loop-g-test.true in omega (arith, pre.0)
+    let h = room _ _ _ _ _ _ pre.0 pre.1 pre.3 c.loop-g.invariant c.generator_points-points.ensures c.loop-g-test.true in omega (arith, pre.0)
 
 pub loop-g-preserved : goal.loop-g-preserved
-loop-g-preserved c = (omega arith, c.record_end-at.ensures ∙ generator_turn _ _ _ _ _ c.requires.0 c.loop-g.invariant.1 c.generator_points-points.ensures)
+loop-g-preserved c = c.record_end-at.ensures ∙ generator_turn _ _ _ _ _ c.requires.0 c.loop-g.invariant c.generator_points-points.ensures
 
 pub returns : goal.returns
-returns c = let e : c.args.k ≡ c.loop-g.g = omega arith in rw e c.loop-g.invariant.1
+returns c = let e : c.args.k ≡ c.loop-g.g = omega arith in rw e c.loop-g.invariant

@@ -1,4 +1,4 @@
-use mathlib.Core.Path.{◌≡◌}
+use mathlib.Core.Path.{◌≡◌, ◌∙◌}
 use mathlib.Core.Bool.{true, false}
 use mathlib.Core.List.{List}
 use Prim.Native.Nat.{◌+◌, ◌≤◌, ◌<◌, ℕ}
@@ -21,15 +21,15 @@ module _ (ws : List ℕ) (n g p : ℕ) (e : n ≡ buses ws) (f : p ≡ generator
   few h = rw (← e, ← f) (le-leb p most_points h)
 
 pub loop-g-init : goal.loop-g-init
-loop-g-init c = (omega arith, first_none _)
+loop-g-init c = first_none _
 
 pub returns-then-generator_points-gt-MOST_POINTS : goal.returns-then-generator_points-gt-MOST_POINTS
 returns-then-generator_points-gt-MOST_POINTS c =
     let pre = c.requires in
-    rw pre.0 (test_here _ 2 _ _ _ (omega arith) c.loop-g-test.true (many _ _ _ _ pre.0 c.generator_points.ensures (omega (arith, c.if-generator_points-gt-MOST_POINTS.true))) c.loop-g.invariant.1)
+    c.too_large.ensures ∙ rw pre.0 (test_here _ 2 _ _ _ (omega arith) c.loop-g-test.true (many _ _ _ _ pre.0 c.generator_points.ensures (omega (arith, c.if-generator_points-gt-MOST_POINTS.true))) c.loop-g.invariant)
 
 pub loop-g-preserved : goal.loop-g-preserved
-loop-g-preserved c = (omega arith, test_more _ 2 _ _ (few _ _ _ _ c.requires.0 c.generator_points.ensures (omega (arith, c.if-generator_points-gt-MOST_POINTS.false))) c.loop-g.invariant.1)
+loop-g-preserved c = test_more _ 2 _ _ (few _ _ _ _ c.requires.0 c.generator_points.ensures (omega (arith, c.if-generator_points-gt-MOST_POINTS.false))) c.loop-g.invariant
 
 pub returns : goal.returns
-returns c = first_done _ _ _ (omega arith) (λ j. unless_proper _ 2 _ (omega arith)) c.loop-g.invariant.1
+returns c = first_done _ _ _ (omega arith) (λ j. unless_proper _ 2 _ (omega arith)) c.loop-g.invariant

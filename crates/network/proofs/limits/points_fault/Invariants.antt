@@ -1,4 +1,3 @@
-use Prim.Native.Nat.{◌-◌, ◌≤◌}
 use lib.Dec.{leb}
 use Rattle.base.proofs.Firsts.{Clear}
 use Rattle.base.specs.Fault.{fault, unless, first}
@@ -7,7 +6,4 @@ use Rattle.network.specs.Network.{points, generator_place}
 use Rattle.network.proofs.limits.points_fault.Given as goal
 
 abbrev pub invariant-loop-g : goal.invariant-loop-g
-invariant-loop-g l = (l.g ≤ l.k) × Clear (first l.g (λ j. unless (leb (points l.words j) most_points) (fault 2 (generator_place l.words j))))
-
-abbrev pub decreases-loop-g : goal.decreases-loop-g
-decreases-loop-g l = l.k - l.g
+invariant-loop-g l = Clear (first l.g (λ j. unless (leb (points l.words j) most_points) (fault 2 (generator_place l.words j))))

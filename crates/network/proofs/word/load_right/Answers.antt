@@ -1,42 +1,37 @@
-use borrow.Author.Tests.{eq-eqb, ne_eqb}
+use mathlib.Core.Path.{refl}
+use native.Mathlib.Omega.{arith}
+use borrow.Author.Tests.{ne_eqb}
 use Rattle.network.specs.Word.{load_right}
 use Rattle.network.proofs.word.load_right.Goals as goal
 
-pub returns-then-kind-eq1 : goal.returns-then-kind-eq1
+pub returns-in-Some-Header : goal.returns-in-Some-Header
 unfolding load_right
-returns-then-kind-eq1 c = rw (c.load_of-load.ensures, ← c.kind_of-kind.ensures, eq-eqb _ _ c.if-kind-eq1.true)
+returns-in-Some-Header c =
+    let e = rw c.in-Some-Header.field-0-is at c.in-Some-Header.ensures.some in rw (c.load_of-load.ensures, ← c.kind_of.ensures, ← e)
 
-pub returns-then-kind-eq2 : goal.returns-then-kind-eq2
+pub returns-in-Some-Bus : goal.returns-in-Some-Bus
 unfolding load_right
-returns-then-kind-eq2 c = rw (c.load_of-load.ensures, ← c.kind_of-kind.ensures, ne_eqb _ _ c.if-kind-eq1.false, eq-eqb _ _ c.if-kind-eq2.true)
+returns-in-Some-Bus c =
+    let e = rw c.in-Some-Bus.field-0-is at c.in-Some-Bus.ensures.some in rw (c.load_of-load.ensures, ← c.kind_of.ensures, ← e)
 
-pub returns-then-kind-eq3 : goal.returns-then-kind-eq3
+pub returns-in-Some-Generator : goal.returns-in-Some-Generator
 unfolding load_right
-returns-then-kind-eq3 c =
-    let kind-of = c.kind_of-kind in
-    let load_of = c.load_of-load in
-    let if1 = c.if-kind-eq1 in
-    rw (load_of.ensures, c.generator_bus.ensures, c.generator_points-curve.ensures, ← kind-of.ensures, ne_eqb _ _ if1.false, ne_eqb _ _ c.if-kind-eq2.false, eq-eqb _ _ c.if-kind-eq3.true)
+returns-in-Some-Generator c =
+    let e = rw c.in-Some-Generator.field-0-is at c.in-Some-Generator.ensures.some in rw (c.load_of-load.ensures, c.generator_bus.ensures, c.generator_points-curve.ensures, ← c.kind_of.ensures, ← e)
 
-pub returns-then-kind-eq4 : goal.returns-then-kind-eq4
+pub returns-in-Some-Branch : goal.returns-in-Some-Branch
 unfolding load_right
-returns-then-kind-eq4 c =
-    let kind-of = c.kind_of-kind in
-    let load_of = c.load_of-load in
-    let if1 = c.if-kind-eq1 in
-    let if2 = c.if-kind-eq2 in
-    rw (load_of.ensures, c.branch_from.ensures, c.branch_to.ensures, ← kind-of.ensures, ne_eqb _ _ if1.false, ne_eqb _ _ if2.false, ne_eqb _ _ c.if-kind-eq3.false, eq-eqb _ _ c.if-kind-eq4.true)
+returns-in-Some-Branch c =
+    let e = rw c.in-Some-Branch.field-0-is at c.in-Some-Branch.ensures.some in rw (c.load_of-load.ensures, c.branch_from.ensures, c.branch_to.ensures, ← c.kind_of.ensures, ← e)
 
-pub returns-then-kind-eq5 : goal.returns-then-kind-eq5
+pub returns-in-Some-Reference : goal.returns-in-Some-Reference
 unfolding load_right
-returns-then-kind-eq5 c =
-    let kind-of = c.kind_of-kind in
-    let load_of = c.load_of-load in
-    let if1 = c.if-kind-eq1 in
-    let if2 = c.if-kind-eq2 in
-    rw (load_of.ensures, c.reference_bus.ensures, ← kind-of.ensures, ne_eqb _ _ if1.false, ne_eqb _ _ if2.false, ne_eqb _ _ c.if-kind-eq3.false, ne_eqb _ _ c.if-kind-eq4.false, eq-eqb _ _ c.if-kind-eq5.true)
+returns-in-Some-Reference c =
+    let e = rw c.in-Some-Reference.field-0-is at c.in-Some-Reference.ensures.some in rw (c.load_of-load.ensures, c.reference_bus.ensures, ← c.kind_of.ensures, ← e)
 
-pub returns : goal.returns
+pub returns-in-None : goal.returns-in-None
 unfolding load_right
-returns c =
-    rw (← c.kind_of-kind.ensures, ne_eqb _ _ c.if-kind-eq1.false, ne_eqb _ _ c.if-kind-eq2.false, ne_eqb _ _ c.if-kind-eq3.false, ne_eqb _ _ c.if-kind-eq4.false, ne_eqb _ _ c.if-kind-eq5.false)
+returns-in-None c =
+    let h = c.in-None.ensures.none.0 refl in
+    let k = c.kind_of.result in
+    rw (← c.kind_of.ensures, ne_eqb k 1 (λ z. omega (arith, h)), ne_eqb k 2 (λ z. omega (arith, h)), ne_eqb k 3 (λ z. omega (arith, h)), ne_eqb k 4 (λ z. omega (arith, h)), ne_eqb k 5 (λ z. omega (arith, h)))

@@ -1,11 +1,8 @@
-use Prim.Native.Nat.{◌-◌}
-use Rattle.network.specs.internal.Records.{Standing}
+use mathlib.Core.Path.{◌≡◌}
 use Rattle.residuals.proofs.CostWalk.{Walked}
 use Rattle.residuals.proofs.cost.costs_at.Given as goal
 
-abbrev pub invariant-loop-cursor : goal.invariant-loop-cursor
-invariant-loop-cursor l =
-    (Standing l.words l.layout l.cursor) × (Walked l.words l.numbers l.point l.layout l.cursor.index l.objective l.most l.column)
-
-abbrev pub decreases-loop-cursor : goal.decreases-loop-cursor
-decreases-loop-cursor l = l.layout.generators - l.cursor.index
+abbrev pub invariant-loop-g : goal.invariant-loop-g
+invariant-loop-g l =
+    (l.g-iterator.tables ≡ l.tables)
+    × Walked l.tables.words.now l.tables.numbers.now l.candidate.point.now l.tables.layout l.g-iterator.cursor.index l.costs l.column

@@ -1,40 +1,26 @@
 use native.Mathlib.Omega.{arith}
-use mathlib.Core.Path.{◌≡◌, ap}
+use mathlib.Core.Path.{◌≡◌, ap, ◌∙◌}
 use Rattle.network.specs.Network.{branches}
 use Rattle.residuals.specs.Residuals.{angle_limits}
 use Rattle.residuals.proofs.Section.{where_none}
 use Rattle.residuals.proofs.Room.{angle_turn}
 use Rattle.residuals.proofs.single.angle_limits.Goals as goal
+use Rattle.residuals.proofs.single.angle_limits.Goals.{then-branch, else-branch}
 
 pub loop-b-init : goal.loop-b-init
-loop-b-init c = (omega arith, where_none _ _)
-
-pub branch_of-branch-requires : goal.branch_of-branch-requires
-branch_of-branch-requires c =
-    let pre = c.requires in
-    (pre.laid, c.loop-b-test.true)
-
-pub angle_limit-most-requires : goal.angle_limit-most-requires
-angle_limit-most-requires c =
-    let pre = c.requires in
-    (omega (arith, c.branch_of-branch.ensures.from, pre.wide), omega (arith, c.branch_of-branch.ensures.to, pre.wide))
-
-pub overflow_add-b : goal.overflow_add-b
-overflow_add-b c =
-    let pre = c.requires in
-    omega (arith, pre.laid.words.few_branches, c.loop-b-test.true)
+loop-b-init c = where_none _ _
 
 pub loop-b-preserved : goal.loop-b-preserved
 loop-b-preserved c =
-    let args = c.args in
-    let loop = c.loop-b in
-    (omega arith, angle_turn c.branch_of-branch.ensures args.point.now loop.invariant.1 c.angle_limit-most.ensures)
+    angle_turn c.branch-branch.ensures c.args.candidate.now.point.now c.loop-b.invariant
+    (elim c.if-branch.branch [
+      | then-branch w ↦ w.most-is ∙ rw (w.if-branch.true, w.maximum-most.ensures, w.positive_violation-outside.ensures, w.va.ensures, w.va-then-branch.ensures)
+      | else-branch w ↦ w.most-is ∙ rw w.if-branch.false
+    ])
 
 pub returns : goal.returns
 unfolding angle_limits
 returns c =
-    let args = c.args in
-    let pre = c.requires in
-    let loop = c.loop-b in
-    let e : loop.b ≡ branches args.words.now = omega (arith, ap (λ z. z.branches) pre.laid.words.is, c.loop-b-test.false, loop.invariant.0) in
-    rw e at loop.invariant.1
+    let tables = c.args.candidate.now.tables in
+    let e : c.loop-b.b ≡ branches tables.words.now = omega (arith, ap (λ z. z.branches) tables.laid.words.is, c.loop-b-test.false, c.loop-b.auto.b-end) in
+    rw e at c.loop-b.invariant

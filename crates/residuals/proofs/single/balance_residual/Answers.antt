@@ -1,19 +1,16 @@
 use native.Mathlib.Omega.{arith}
-use mathlib.Core.Path.{◌≡◌, ap, ◌∙◌}
-use Rattle.float.specs.Number.{absolute}
-use Rattle.residuals.proofs.Section.{with_none, with_next, with_same, largest_is}
+use mathlib.Core.Path.{◌≡◌, ◌∙◌}
+use lib.ListN.{length}
+use Rattle.residuals.proofs.Section.{with_none, with_next, largest_is}
 use Rattle.residuals.proofs.single.balance_residual.Goals as goal
 
-pub loop-i-init : goal.loop-i-init
-loop-i-init c = (omega arith, with_none _ _)
+pub loop-off-init : goal.loop-off-init
+loop-off-init c = with_none _ _
 
-pub loop-i-preserved : goal.loop-i-preserved
-loop-i-preserved c =
-    let loop = c.loop-i in
-    (omega arith, with_next _ _ _ _ _ loop.invariant.1 (rw (c.maximum-most.ensures, c.absolute.ensures)))
+pub loop-off-preserved : goal.loop-off-preserved
+loop-off-preserved c = with_next _ _ _ _ _ c.loop-off.invariant (rw (c.maximum-most.ensures, c.absolute.ensures))
 
 pub returns : goal.returns
 returns c =
-    let args = c.args in
-    let e : c.loop-i.i ≡ args.n = omega (arith, c.loop-i-test.false, c.loop-i.invariant.0) in
-    λ f a. rw e at c.loop-i.invariant.1 ∙ with_same _ _ _ (λ j. absolute (f j)) (λ j l. ap absolute (a j l)) ∙ largest_is _ _
+    let e : c.loop-off.off-index ≡ length c.args.balance.now = omega (arith, c.loop-off-test.false, c.loop-off.auto.off-index-end) in
+    rw e at c.loop-off.invariant ∙ largest_is _ _

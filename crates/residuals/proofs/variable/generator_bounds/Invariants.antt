@@ -1,13 +1,13 @@
-use mathlib.Core.Path.{◌≡◌}
-use Prim.Native.Nat.{◌-◌}
-use Rattle.network.specs.internal.Records.{Standing}
-use Rattle.residuals.specs.internal.Section.{outside, generator_lower, generator_upper, largest_with}
+use Rattle.std.proofs.Common.{◌≡◌, Float}
+use Rattle.network.specs.declared.records.Generator.{Generator}
+use Rattle.network.specs.internal.Records.{generator_record}
+use Rattle.residuals.specs.internal.Section.{largest_with, outside, held_lower, held_upper}
 use Rattle.residuals.proofs.variable.generator_bounds.Given as goal
 
-abbrev pub invariant-loop-cursor : goal.invariant-loop-cursor
-invariant-loop-cursor l =
-    (Standing l.words l.layout l.cursor)
-    × (l.most ≡ largest_with l.start l.cursor.index (outside l.point l.from (generator_lower l.words l.numbers l.active) (generator_upper l.words l.numbers l.active)))
-
-abbrev pub decreases-loop-cursor : goal.decreases-loop-cursor
-decreases-loop-cursor l = l.layout.generators - l.cursor.index
+abbrev pub invariant-loop-g : goal.invariant-loop-g
+invariant-loop-g g l =
+    let ws = l.tables.words.now in
+    let xs = l.tables.numbers.now in
+    (l.g-iterator.tables ≡ l.tables)
+    × ((f : Generator → Float × Float) → ((generator : Generator) (b : Float × Float) → goal.F-post g l.bounds generator b → b ≡ f generator)
+    → l.most ≡ largest_with l.start l.g-iterator.cursor.index (outside l.columns (λ j. held_lower f (generator_record ws xs j)) (λ j. held_upper f (generator_record ws xs j))))

@@ -1,35 +1,39 @@
 -- `row_values::scan::scan_end` meets its contract.
-use mathlib.Core.Path.{ap}
-use mathlib.Core.Bool.{not}
+use mathlib.Core.Path.{◌≡◌, ap, sym, ◌∙◌}
 use Prim.Native.Nat.{◌<◌}
 use native.Mathlib.Omega.{arith}
+use lib.ListN.{length}
+use Rattle.nl.specs.Reader.{is_mark, read_last}
 use Rattle.nl.proofs.PartSteps.{mark_inside}
-use Rattle.row_values.proofs.Files.{no_end, objective_bad, last_bad, ends}
+use Rattle.row_values.specs.internal.Run.{EndScanned}
+use Rattle.row_values.proofs.Passes.{exit_as}
+use Rattle.row_values.proofs.Files.{no_end, objective_bad, last_read, ends}
 use Rattle.row_values.proofs.scan.scan_end.Goals as goal
+use Rattle.row_values.proofs.scan.scan_end.Goals.{After-is_mark, After-read_last}
+
+marks : (c : After-is_mark) → c.is_mark.result ≡ is_mark c.args.inputs.now.words.now 12 0 c.args.from.at
+marks c = c.is_mark.ensures ∙ ap (λ ws. is_mark ws 12 0 c.args.from.at) c.file-file.ensures.0
+
+last_is : (c : After-read_last) → c.read_last.result ≡ read_last c.args.inputs.now.words.now (length c.args.inputs.now.constants.now) c.in_ok-objective.objective.end.at c.in_ok-objective.objective.end.next
+last_is c = rw (c.file-file.ensures.0, c.file-file.ensures.1) at c.read_last.ensures
 
 pub returns-then-not-is_mark : goal.returns-then-not-is_mark
-returns-then-not-is_mark c =
-    let args = c.args in
-    no_end args.words.now args.constants.now args.point.now args.shared.now args.at args.k _ c.is_mark.ensures (ap not c.if-not-is_mark.true)
+returns-then-not-is_mark c = no_end _ _ _ _ _ _ _ (marks (goal.at.returns-then-not-is_mark c).After-is_mark) c.if-not-is_mark.true
 
-pub overflow_add-at : goal.overflow_add-at
-overflow_add-at c = let h : _ < _ = mark_inside _ _ _ _ _ c.is_mark.ensures c.if-not-is_mark.false in omega arith
+pub overflow_add-from : goal.overflow_add-from
+overflow_add-from c = let h : _ < _ = mark_inside _ _ _ _ _ c.is_mark.ensures c.if-not-is_mark.false in omega arith
 
-pub returns-then-e-eq0 : goal.returns-then-e-eq0
-returns-then-e-eq0 c =
-    let args = c.args in
-    objective_bad args.words.now args.constants.now args.point.now args.shared.now args.at args.k _ c.is_mark.ensures
-    _ (ap not c.if-not-is_mark.false) c.scan-e.ensures c.if-e-eq0.true
+pub returns-in_err-objective : goal.returns-in_err-objective
+returns-in_err-objective c =
+    exit_as (EndScanned _ _ _ _ _ _) _ _ c.from_residual.ensures.1
+    (objective_bad _ _ _ _ _ _ _ (marks (goal.at.returns-in_err-objective c).After-is_mark) c.if-not-is_mark.false _ c.in_err-objective.ensures)
 
-pub returns-in-Wrong : goal.returns-in-Wrong
-returns-in-Wrong c =
-    let args = c.args in
-    last_bad args.words.now args.constants.now args.point.now args.shared.now args.at args.k _ c.is_mark.ensures
-    _ (ap not c.if-not-is_mark.false) c.scan-e.ensures c.if-e-eq0.false _ c.read_last-last.ensures _ c.in-Wrong.is
+pub returns-in_err-read_last : goal.returns-in_err-read_last
+returns-in_err-read_last c =
+    exit_as (EndScanned _ _ _ _ _ _) _ _ c.from_residual-in_err-read_last.ensures.1
+    (sym (last_read _ _ _ _ _ _ _ (marks (goal.at.returns-in_err-read_last c).After-is_mark) c.if-not-is_mark.false _ c.in_ok-objective.ensures _ (last_is (goal.at.returns-in_err-read_last c).After-read_last))
+    ∙ c.in_err-read_last.was)
 
-pub returns-in-Went : goal.returns-in-Went
-returns-in-Went c =
-    let args = c.args in
-    ends args.words.now args.constants.now args.point.now args.shared.now args.at args.k _ c.is_mark.ensures
-    _ (ap not c.if-not-is_mark.false) c.scan-e.ensures c.if-e-eq0.false _ c.read_last-last.ensures
-    _ _ _ c.in-Went.is c.first_fault.ensures
+pub returns : goal.returns
+returns c =
+    ends _ _ _ _ _ _ _ (marks (goal.at.returns c).After-is_mark) c.if-not-is_mark.false _ c.in_ok-objective.ensures _ (last_is (goal.at.returns c).After-read_last) _ c.in_ok-read_last.was

@@ -1,32 +1,26 @@
 -- `row_values::scan::scan_file` meets its contract.
-use mathlib.Core.Path.{sym}
-use lib.Seq.{length-take-le}
-use Rattle.row_values.proofs.Files.{file_full, shared_failed, shared_fits, file_scanned}
-use borrow.Author.Rules.{rules}
+use mathlib.Core.Path.{◌∙◌}
+use Rattle.row_values.specs.internal.Run.{FileScanned}
+use Rattle.row_values.proofs.Passes.{exit_as}
+use Rattle.row_values.proofs.Files.{shared_exit, rows_failed, end_failed, file_run}
 use Rattle.row_values.proofs.scan.scan_file.Goals as goal
 
-pub slice_bounds-scan_after-end : goal.slice_bounds-scan_after-end
-slice_bounds-scan_after-end c =
-    let args = c.args in
-    shared_fits args.words.now args.constants.now args.point.now _ _ c.scan_shared-s.ensures _ c.in-Stop.is (search rules)
+pub returns-in_err-shared : goal.returns-in_err-shared
+returns-in_err-shared c =
+    exit_as (FileScanned _ _ _ _ _ _) _ _ c.from_residual.ensures.1
+    (shared_exit _ _ _ c.scan_shared.new.array c.args.rows.now c.args.rows.now _ c.in_err-shared.ensures)
 
-pub slice_bounds-scan_after-end-in-Stop : goal.slice_bounds-scan_after-end-in-Stop
-slice_bounds-scan_after-end-in-Stop c =
-    let args = c.args in
-    sym (length-take-le _ _ (shared_fits args.words.now args.constants.now args.point.now _ _ c.scan_shared-s.ensures _ c.in-Stop.is (search rules)))
+pub returns-in_err-its_rows : goal.returns-in_err-its_rows
+returns-in_err-its_rows c =
+    exit_as (FileScanned _ _ _ _ _ _) _ _ c.from_residual-in_err-its_rows.ensures.1
+    (rows_failed _ _ _ _ _ c.in_ok-shared.ensures (c.scan_shared.auto.array ∙ c.requires) _ c.in_err-its_rows.ensures)
 
-pub returns-in-Full : goal.returns-in-Full
-returns-in-Full c =
-    let args = c.args in
-    file_full args.words.now args.constants.now args.point.now _ _ c.scan_shared-s.ensures c.in-Full.is
+pub returns-in_err-objective : goal.returns-in_err-objective
+returns-in_err-objective c =
+    exit_as (FileScanned _ _ _ _ _ _) _ _ c.from_residual-in_err-objective.ensures.1
+    (end_failed _ _ _ _ _ c.in_ok-shared.ensures (c.scan_shared.auto.array ∙ c.requires) _ _ _ c.in_ok-its_rows.ensures _ c.in_err-objective.ensures)
 
-pub returns-in-Bad : goal.returns-in-Bad
-returns-in-Bad c =
-    let args = c.args in
-    shared_failed args.words.now args.constants.now args.point.now _ _ c.scan_shared-s.ensures _ c.in-Bad.is
-
-pub returns-in-Stop : goal.returns-in-Stop
-returns-in-Stop c =
-    let args = c.args in
-    file_scanned args.words.now args.constants.now args.point.now _ _ c.scan_shared-s.ensures _ c.in-Stop.is (search rules)
-    args.rows.now c.scan_after.new.rows c.scan_after.result c.scan_after.ensures
+pub returns : goal.returns
+returns c =
+    file_run _ _ _ _ _ c.in_ok-shared.ensures (c.scan_shared.auto.array ∙ c.requires) _ _ _ c.in_ok-its_rows.ensures _ _ _ c.in_ok-objective.ensures
+    c.and-earlier.ensures c.first_fault.ensures

@@ -1,60 +1,41 @@
--- `row_values::scan::scan_rows` meets its contract. The loop's invariant: the rows before have their values in the list, as far as it reaches.
+-- `row_values::scan::scan_rows` meets its contract.
+use mathlib.Core.Path.{◌≡◌, ap, ◌∙◌}
 use Prim.Native.Nat.{◌<◌}
 use native.Mathlib.Omega.{arith}
+use Rattle.nl.specs.Reader.{is_mark}
 use Rattle.nl.proofs.PartSteps.{mark_inside}
-use Rattle.row_values.proofs.Runs.{rows_none, rows_bad, row_goes_on, rows_more, rows_all}
+use Rattle.row_values.specs.internal.Run.{RowsScanned}
+use Rattle.row_values.proofs.Passes.{exit_as}
+use Rattle.row_values.proofs.Runs.{rows_none, rows_wrong, row_goes_on, rows_more, rows_all}
 use Rattle.row_values.proofs.scan.scan_rows.Goals as goal
+use Rattle.row_values.proofs.scan.scan_rows.Goals.{After-is_mark}
 
-pub loop-e-init : goal.loop-e-init
-loop-e-init c =
-    let args = c.args in
-    rows_none args.words.now args.constants.now args.point.now _ _ _ _
+marks : (c : After-is_mark) → c.is_mark.result ≡ is_mark c.args.inputs.now.words.now 11 c.loop-file.count c.loop-file.end.at
+marks c = c.is_mark.ensures ∙ ap (λ ws. is_mark ws 11 c.loop-file.count c.loop-file.end.at) c.file-file.ensures.0
 
-pub overflow_add-at : goal.overflow_add-at
-overflow_add-at c = let h : _ < _ = mark_inside _ _ _ _ _ c.is_mark.ensures c.loop-e-test.true in omega arith
+pub loop-file-init : goal.loop-file-init
+loop-file-init c = rows_none _ _ _ _ _ _ _
 
-pub shape_of-rows-then-e-eq0 : goal.shape_of-rows-then-e-eq0
-shape_of-rows-then-e-eq0 c = c.loop-e.invariant.same_length
+pub overflow_add-end : goal.overflow_add-end
+overflow_add-end c = let h : _ < _ = mark_inside _ _ _ _ _ c.is_mark.ensures c.loop-file-test.true in omega arith
 
-pub returns-then-e-eq0 : goal.returns-then-e-eq0
-returns-then-e-eq0 c =
-    let args = c.args in
-    let loop = c.loop-e in
-    rows_bad args.words.now args.constants.now args.point.now args.shared.now args.from args.first args.rows.now
-    loop.rows loop.at loop.next loop.fault loop.count _ _ loop.invariant c.is_mark.ensures c.loop-e-test.true c.scan-e.ensures c.if-e-eq0.true
+pub returns-in_err-row : goal.returns-in_err-row
+returns-in_err-row c =
+    exit_as (RowsScanned _ _ _ _ _ _ _ _) _ _ c.from_residual.ensures.1
+    (rows_wrong _ _ _ _ _ _ _ _ _ _ _ _ _ c.loop-file.invariant (marks (goal.at.returns-in_err-row c).After-is_mark) c.loop-file-test.true _ c.in_err-row.ensures)
 
 pub overflow_add-count : goal.overflow_add-count
-overflow_add-count c =
-    let h : _ < _ =
-    mark_inside _ _ _ _ _ c.is_mark.ensures
-    c.loop-e-test.true in
-    omega (arith, c.loop-e.invariant.least)
+overflow_add-count c = let h : _ < _ = mark_inside _ _ _ _ _ c.is_mark.ensures c.loop-file-test.true in omega (arith, c.loop-file.invariant.least)
 
-pub loop-e-smaller : goal.loop-e-smaller
-loop-e-smaller c =
-    let args = c.args in
-    let loop = c.loop-e in
-    let far = row_goes_on args.words.now args.constants.now args.point.now args.shared.now args.from args.first args.rows.now
-    loop.rows loop.at loop.next loop.fault loop.count _ _ loop.invariant
-    c.is_mark.ensures c.loop-e-test.true c.scan-e.ensures
-    c.if-e-eq0.false in
+pub loop-file-smaller : goal.loop-file-smaller
+loop-file-smaller c =
+    let far = row_goes_on _ _ _ _ _ _ _ _ _ _ _ _ _ c.loop-file.invariant (marks (goal.at.loop-file-smaller c).After-is_mark) c.loop-file-test.true _ c.in_ok-row.ensures in
     omega arith
 
-pub loop-e-preserved : goal.loop-e-preserved
-loop-e-preserved c =
-    let args = c.args in
-    let loop = c.loop-e in
-    rows_more args.words.now args.constants.now args.point.now args.shared.now args.from args.first args.rows.now
-    loop.rows loop.at loop.next loop.fault loop.count _ _ loop.invariant
-    c.is_mark.ensures c.loop-e-test.true c.scan-e.ensures
-    c.if-e-eq0.false _ _ c.keep.ensures c.first_fault-fault.ensures
-
-pub shape_of-rows : goal.shape_of-rows
-shape_of-rows c = c.loop-e.invariant.same_length
+pub loop-file-preserved : goal.loop-file-preserved
+loop-file-preserved c =
+    rw c.keep.ensures (rows_more _ _ _ _ _ _ _ _ _ _ _ _ _ c.loop-file.invariant (marks (goal.at.loop-file-preserved c).After-is_mark) c.loop-file-test.true _ c.in_ok-row.ensures _
+    c.first_fault-verdict.ensures)
 
 pub returns : goal.returns
-returns c =
-    let args = c.args in
-    let loop = c.loop-e in
-    rows_all args.words.now args.constants.now args.point.now args.shared.now args.from args.first args.rows.now
-    loop.rows loop.at loop.next loop.fault loop.count _ loop.invariant c.is_mark.ensures c.loop-e-test.false
+returns c = rows_all _ _ _ _ _ _ _ _ _ _ _ _ _ c.loop-file.invariant (marks (goal.at.returns c).After-is_mark) c.loop-file-test.false

@@ -4,10 +4,10 @@ use lib.ListN.{length}
 use Rattle.row_values.proofs.Runs.{RowsSoFar}
 use Rattle.row_values.proofs.scan.scan_rows.Given as goal
 
-abbrev pub invariant-loop-e : goal.invariant-loop-e
-invariant-loop-e l =
-    RowsSoFar l.words l.constants l.point l.shared l.from l.first l.initial.rows l.rows l.at l.next l.fault l.count
+abbrev pub invariant-loop-file : goal.invariant-loop-file
+invariant-loop-file l =
+    let e = l.inputs in
+    RowsSoFar e.words.now e.constants.now e.point.now e.shared.now l.fn.from.at l.fn.from.next l.initial.rows l.rows l.end.at l.end.next l.verdict l.count
 
-abbrev pub decreases-loop-e : goal.decreases-loop-e
-decreases-loop-e l =
-    length l.words - l.at
+abbrev pub decreases-loop-file : goal.decreases-loop-file
+decreases-loop-file l = length l.inputs.words.now - l.end.at

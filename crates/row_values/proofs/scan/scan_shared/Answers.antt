@@ -1,53 +1,43 @@
--- `row_values::scan::scan_shared` meets its contract. The loop's invariant: the parts before have their values in the array.
+-- `row_values::scan::scan_shared` meets its contract.
+use mathlib.Core.Path.{◌≡◌, ap, ◌∙◌}
 use Prim.Native.Nat.{◌<◌}
 use native.Mathlib.Omega.{arith}
-use mathlib.Core.Path.{refl, sym, ◌∙◌}
-use lib.Seq.{length-take-le}
+use Rattle.nl.specs.Reader.{is_mark}
 use Rattle.nl.proofs.PartSteps.{mark_inside}
-use Rattle.row_values.proofs.Runs.{shared_none, shared_full, shared_bad, shared_more, shared_all}
-use borrow.Author.Rules.{rules}
+use Rattle.row_values.specs.internal.Run.{SharedScanned}
+use Rattle.row_values.proofs.Passes.{exit_as}
+use Rattle.row_values.proofs.Runs.{shared_none, shared_full, shared_wrong, shared_more, shared_all}
 use Rattle.row_values.proofs.scan.scan_shared.Goals as goal
+use Rattle.row_values.proofs.scan.scan_shared.Goals.{After-is_mark}
 
-pub loop-fault-init : goal.loop-fault-init
-loop-fault-init c =
-    let args = c.args in
-    (refl, search rules, shared_none args.words.now args.constants.now args.point.now _)
+marks : (c : After-is_mark) → c.is_mark.result ≡ is_mark c.args.inputs.now.words.now 10 c.loop-file.count c.loop-file.end.at
+marks c = c.is_mark.ensures ∙ ap (λ ws. is_mark ws 10 c.loop-file.count c.loop-file.end.at) c.file-file.ensures.0
+
+pub loop-file-init : goal.loop-file-init
+loop-file-init c = (c.requires, shared_none _ _ _ _)
 
 pub returns-then-array-count : goal.returns-then-array-count
 returns-then-array-count c =
-    let args = c.args in
-    let loop = c.loop-fault in
-    let small = loop.invariant.0 ∙ loop.invariant.1 in
-    shared_full args.words.now args.constants.now args.point.now loop.array loop.at loop.next loop.fault loop.count _ loop.invariant.2 small c.if-array-count.true c.is_mark.ensures c.loop-fault-test.true
+    let small = c.loop-file.auto.array ∙ c.loop-file.invariant.0 in
+    shared_full _ _ _ _ _ _ _ _ _ c.loop-file.invariant.1 small c.if-array-count.true (marks (goal.at.returns-then-array-count c).After-is_mark) c.loop-file-test.true
 
-pub overflow_add-at : goal.overflow_add-at
-overflow_add-at c = let h : _ < _ = mark_inside _ _ _ _ _ c.is_mark.ensures c.loop-fault-test.true in omega arith
+pub overflow_add-end : goal.overflow_add-end
+overflow_add-end c = let h : _ < _ = mark_inside _ _ _ _ _ c.is_mark.ensures c.loop-file-test.true in omega arith
 
-pub slice_bounds-scan-end-in-loop-fault : goal.slice_bounds-scan-end-in-loop-fault
-slice_bounds-scan-end-in-loop-fault c = sym (length-take-le _ _ (omega (arith, c.if-array-count.false)))
+pub returns-in_err-part : goal.returns-in_err-part
+returns-in_err-part c =
+    exit_as (SharedScanned _ _ _ _) _ _ c.from_residual.ensures.1
+    (shared_wrong _ _ _ _ _ _ _ _ _ c.loop-file.invariant.1 c.if-array-count.false (marks (goal.at.returns-in_err-part c).After-is_mark) c.loop-file-test.true _ c.in_err-part.ensures)
 
-pub returns-then-e-eq0 : goal.returns-then-e-eq0
-returns-then-e-eq0 c =
-    let args = c.args in
-    let loop = c.loop-fault in
-    shared_bad args.words.now args.constants.now args.point.now loop.array loop.at loop.next loop.fault loop.count
-    _ _ loop.invariant.2 c.if-array-count.false c.is_mark.ensures c.loop-fault-test.true c.scan-e.ensures c.if-e-eq0.true
-
-pub loop-fault-preserved : goal.loop-fault-preserved
-loop-fault-preserved c =
-    let args = c.args in
-    let loop = c.loop-fault in
-    let small = loop.invariant.0 ∙ loop.invariant.1 in (
-      search rules,
-      loop.invariant.1,
-      shared_more args.words.now args.constants.now args.point.now loop.array loop.at loop.next loop.fault loop.count
-          _ _ loop.invariant.2 c.if-array-count.false c.is_mark.ensures c.loop-fault-test.true c.scan-e.ensures
-          c.if-e-eq0.false _ small c.first_fault-fault.ensures,
+pub loop-file-preserved : goal.loop-file-preserved
+loop-file-preserved c =
+    let small = c.loop-file.auto.array ∙ c.loop-file.invariant.0 in (
+      c.loop-file.invariant.0,
+      shared_more _ _ _ _ _ _ _ _ _ c.loop-file.invariant.1 c.if-array-count.false (marks (goal.at.loop-file-preserved c).After-is_mark) c.loop-file-test.true _ c.in_ok-part.ensures _ small
+          c.first_fault-verdict.ensures,
     )
 
 pub returns : goal.returns
 returns c =
-    let args = c.args in
-    let loop = c.loop-fault in
-    let small = loop.invariant.0 ∙ loop.invariant.1 in
-    shared_all args.words.now args.constants.now args.point.now loop.array loop.at loop.next loop.fault loop.count _ loop.invariant.2 small c.is_mark.ensures c.loop-fault-test.false
+    let small = c.loop-file.auto.array ∙ c.loop-file.invariant.0 in
+    shared_all _ _ _ _ _ _ _ _ _ c.loop-file.invariant.1 small (marks (goal.at.returns c).After-is_mark) c.loop-file-test.false

@@ -6,10 +6,10 @@ use Rattle.model_reading.specs.Reading.{shared_limit}
 use Rattle.row_values.proofs.Runs.{SharedSoFar}
 use Rattle.row_values.proofs.scan.scan_shared.Given as goal
 
-abbrev pub invariant-loop-fault : goal.invariant-loop-fault
-invariant-loop-fault l =
-    (length l.array ≡ length l.initial.array) × (length l.initial.array ≡ shared_limit) × SharedSoFar l.words l.constants l.point l.array l.at l.next l.fault l.count
+abbrev pub invariant-loop-file : goal.invariant-loop-file
+invariant-loop-file l =
+    let e = l.inputs in
+    (length l.initial.array ≡ shared_limit) × SharedSoFar e.words.now e.constants.now e.point.now l.array l.end.at l.end.next l.verdict l.count
 
-abbrev pub decreases-loop-fault : goal.decreases-loop-fault
-decreases-loop-fault l =
-    length l.initial.array - l.count
+abbrev pub decreases-loop-file : goal.decreases-loop-file
+decreases-loop-file l = length l.initial.array - l.count

@@ -1,25 +1,22 @@
 use mathlib.Core.Path.{refl, sym, ◌∙◌}
-use Rattle.base.proofs.Turns.{link_go, link_stop}
+use Rattle.base.proofs.Refusals.{link_exit, link_ok}
 use Rattle.tables.specs.Fault.{fault_blank}
 use Rattle.tables.proofs.blank.blank_fault.Goals as goal
 
-pub returns-then-bus-ne0 : goal.returns-then-bus-ne0
+pub returns-in_err-blank_buses : goal.returns-in_err-blank_buses
 unfolding fault_blank
-returns-then-bus-ne0 c = link_stop _ _ _ _ refl (rw c.requires.words.is at c.blank_buses-bus.ensures) c.if-bus-ne0.true
+returns-in_err-blank_buses c =
+    link_exit _ _ _ _ _ c.from_residual.ensures.1 refl (rw c.args.tables.now.laid.words.is at c.in_err-blank_buses.ensures)
 
-pub returns-then-generator-ne0 : goal.returns-then-generator-ne0
+pub returns-in_err-blank_generators : goal.returns-in_err-blank_generators
 unfolding fault_blank
-returns-then-generator-ne0 c =
-    let L = c.requires.words.is in
-    link_stop _ _ _ _ (link_go _ _ _ _ refl (rw L at c.blank_buses-bus.ensures) c.if-bus-ne0.false) (rw L at c.blank_generators-generator.ensures) c.if-generator-ne0.true
+returns-in_err-blank_generators c =
+    let w1 = link_ok _ _ _ refl (rw c.args.tables.now.laid.words.is at c.in_ok-blank_buses.ensures) in
+    link_exit _ _ _ _ _ c.from_residual-in_err-blank_generators.ensures.1 w1 (rw c.args.tables.now.laid.words.is at c.in_err-blank_generators.ensures)
 
 pub returns : goal.returns
 unfolding fault_blank
 returns c =
-    let its-pre = c.requires in
-    let blank-buses = c.blank_buses-bus in
-    let blank-generators = c.blank_generators-generator in
-    let if1 = c.if-bus-ne0 in
-    let pre = its-pre in
-    let L = pre.words.is in
-    (rw L at c.blank_branches.ensures) ∙ sym (link_go _ _ _ _ (link_go _ _ _ _ refl (rw L at blank-buses.ensures) if1.false) (rw L at blank-generators.ensures) c.if-generator-ne0.false)
+    let w1 = link_ok _ _ _ refl (rw c.args.tables.now.laid.words.is at c.in_ok-blank_buses.ensures) in
+    let w2 = link_ok _ _ _ w1 (rw c.args.tables.now.laid.words.is at c.in_ok-blank_generators.ensures) in
+    (rw c.args.tables.now.laid.words.is at c.blank_branches.ensures) ∙ sym w2

@@ -1,31 +1,36 @@
+use mathlib.Core.Path.{◌≡◌, ap, ◌∙◌}
 use native.Mathlib.Omega.{arith}
-use mathlib.Core.Path.{ap}
 use Rattle.base.proofs.Firsts.{unless_proper, first_proper}
-use Rattle.base.proofs.Turns.{first_none, first_step, first_here, first_done}
+use Rattle.base.proofs.Turns.{first_none, first_done}
+use Rattle.base.proofs.Refusals.{first_pass, first_exit}
 use Rattle.tables.specs.Fault.{fault_curve}
 use Rattle.tables.proofs.curve.curve_fault.Goals as goal
 
-pub loop-cursor-init : goal.loop-cursor-init
-loop-cursor-init c = (c.first_generator-cursor.ensures.0, rw c.first_generator-cursor.ensures.1 (first_none _))
+pub loop-generator-init : goal.loop-generator-init
+loop-generator-init c =
+    let items = c.generators-generator-items.ensures in
+    let e = c.into_iter-generator-iterator.ensures.into_iter_gives in
+    (ap (λ s. s.tables) e ∙ items.0, rw (e, items.1) (first_none _))
 
-pub curve_at-f-requires : goal.curve_at-f-requires
-curve_at-f-requires c = c.generator_of-g.ensures.curve
+pub curve_at-requires : goal.curve_at-requires
+curve_at-requires c = let step = rw c.loop-generator.invariant.0 at c.in-Some.ensures.steps.0 in step.2.curve
 
-pub returns-then-f-ne0 : goal.returns-then-f-ne0
+pub returns-in_err-curve_at : goal.returns-in_err-curve_at
 unfolding fault_curve
-returns-then-f-ne0 c =
-    let k = ap (λ l. l.generators) c.requires.words.is in
-    first_here _ _ _ _ (omega (arith, k, c.loop-cursor-test.true)) c.loop-cursor.invariant.1 (rw c.generator_of-g.ensures.is at c.curve_at-f.ensures) c.if-f-ne0.true
+returns-in_err-curve_at c =
+    let L = ap (λ l. l.generators) c.args.tables.now.laid.words.is in
+    let step = rw c.loop-generator.invariant.0 at c.in-Some.ensures.steps.0 in
+    first_exit _ _ _ _ _ c.from_residual.ensures.1 (omega (arith, L, step.0)) c.loop-generator.invariant.1 (rw step.2.is at c.in_err-curve_at.ensures)
 
-pub loop-cursor-preserved : goal.loop-cursor-preserved
-loop-cursor-preserved c =
-    let turn = c.loop-cursor in
-    let generator-of = c.generator_of-g in
-    let curve-at = c.curve_at-f in
-    (c.next_generator-cursor.ensures.0, rw c.next_generator-cursor.ensures.1 (first_step _ _ _ turn.invariant.1 (rw generator-of.ensures.is at curve-at.ensures) c.if-f-ne0.false))
+pub loop-generator-preserved : goal.loop-generator-preserved
+loop-generator-preserved c =
+    let step = rw c.loop-generator.invariant.0 at c.in-Some.ensures.steps.0 in
+    (c.in-Some.ensures.steps.1 ∙ c.loop-generator.invariant.0, rw step.3 (first_pass _ _ c.loop-generator.invariant.1 (rw step.2.is at c.in_ok-curve_at.ensures)))
 
 pub returns : goal.returns
 unfolding fault_curve
 returns c =
-    let k = ap (λ l. l.generators) c.requires.words.is in
-    first_done _ _ _ (omega (arith, k, c.loop-cursor-test.false, c.loop-cursor.invariant.0.within)) (λ g. first_proper _ _ (λ s. unless_proper _ 5 _ (omega arith))) c.loop-cursor.invariant.1
+    let L = ap (λ l. l.generators) c.args.tables.now.laid.words.is in
+    let e = ap (λ t. t.layout.generators) c.loop-generator.invariant.0 in
+    let end : c.args.tables.now.layout.generators ≡ c.loop-generator.generator-iterator.cursor.index = omega (arith, e, c.in-None.ensures.steps.0.0, c.loop-generator.generator-iterator.standing.within) in
+    first_done _ _ _ (omega (arith, L, end)) (λ j. first_proper _ _ (λ s. unless_proper _ 5 _ (omega arith))) c.loop-generator.invariant.1

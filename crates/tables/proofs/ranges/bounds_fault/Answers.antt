@@ -1,14 +1,15 @@
 use mathlib.Core.Path.{refl, sym, ◌∙◌}
-use Rattle.base.proofs.Turns.{link_go, link_stop}
+use Rattle.base.proofs.Refusals.{link_exit, link_ok}
 use Rattle.tables.specs.Fault.{fault_bounds}
 use Rattle.tables.proofs.ranges.bounds_fault.Goals as goal
 
-pub returns-then-bus-ne0 : goal.returns-then-bus-ne0
+pub returns-in_err-bounds_of_buses : goal.returns-in_err-bounds_of_buses
 unfolding fault_bounds
-returns-then-bus-ne0 c = link_stop _ _ _ _ refl (rw c.requires.words.is at c.bounds_of_buses-bus.ensures) c.if-bus-ne0.true
+returns-in_err-bounds_of_buses c =
+    link_exit _ _ _ _ _ c.from_residual.ensures.1 refl (rw c.args.tables.now.laid.words.is at c.in_err-bounds_of_buses.ensures)
 
 pub returns : goal.returns
 unfolding fault_bounds
 returns c =
-    let L = c.requires.words.is in
-    (rw L at c.bounds_of_generators.ensures) ∙ sym (link_go _ _ _ _ refl (rw L at c.bounds_of_buses-bus.ensures) c.if-bus-ne0.false)
+    let w1 = link_ok _ _ _ refl (rw c.args.tables.now.laid.words.is at c.in_ok-bounds_of_buses.ensures) in
+    (rw c.args.tables.now.laid.words.is at c.bounds_of_generators.ensures) ∙ sym w1

@@ -1,14 +1,12 @@
-use Rattle.base.specs.Fault.{unless, or_else}
+use mathlib.Core.Path.{refl, sym, ◌∙◌}
+use Rattle.base.proofs.Refusals.{link_exit, link_ok}
 use Rattle.tables.proofs.ranges.bounds_of_generator.Goals as goal
 
-pub returns-then-not-validate_active : goal.returns-then-not-validate_active
-unfolding unless or_else
-returns-then-not-validate_active c = rw (← c.validate_active.ensures, c.if-not-validate_active.true)
-
-pub returns-then-not-validate_active-2 : goal.returns-then-not-validate_active-2
-unfolding unless or_else
-returns-then-not-validate_active-2 c = rw (← c.validate_active.ensures, c.if-not-validate_active.false, ← c.validate_active-2.ensures, c.if-not-validate_active-2.true)
+pub returns-in_err-unless : goal.returns-in_err-unless
+returns-in_err-unless c =
+    link_exit _ _ _ _ _ c.from_residual.ensures.1 refl (rw c.validate_active.ensures at c.in_err-unless.ensures)
 
 pub returns : goal.returns
-unfolding unless or_else
-returns c = rw (← c.validate_active.ensures, c.if-not-validate_active.false, ← c.validate_active-2.ensures, c.if-not-validate_active-2.false)
+returns c =
+    let w1 = link_ok _ _ _ refl (rw c.validate_active.ensures at c.in_ok-unless.ensures) in
+    (rw c.validate_active-2.ensures at c.unless-2.ensures) ∙ sym w1

@@ -1,32 +1,33 @@
 use mathlib.Core.Path.{refl, sym, ◌∙◌}
-use Rattle.base.proofs.Turns.{link_go, link_stop}
+use Rattle.base.proofs.Refusals.{link_exit, link_ok}
 use Rattle.tables.proofs.tables.numbers_fault.Goals as goal
 
-pub returns-then-blank-ne0 : goal.returns-then-blank-ne0
-returns-then-blank-ne0 c = link_stop _ _ _ _ refl c.blank_fault-blank.ensures c.if-blank-ne0.true
+pub returns-in_err-blank_fault : goal.returns-in_err-blank_fault
+returns-in_err-blank_fault c =
+    link_exit _ _ _ _ _ c.from_residual.ensures.1 refl c.in_err-blank_fault.ensures
 
-pub returns-then-curve-ne0 : goal.returns-then-curve-ne0
-returns-then-curve-ne0 c =
-    let w0 = link_go _ _ _ _ refl c.blank_fault-blank.ensures c.if-blank-ne0.false in
-    link_stop _ _ _ _ w0 c.curve_fault-curve.ensures c.if-curve-ne0.true
+pub returns-in_err-curve_fault : goal.returns-in_err-curve_fault
+returns-in_err-curve_fault c =
+    let w1 = link_ok _ _ _ refl c.in_ok-blank_fault.ensures in
+    link_exit _ _ _ _ _ c.from_residual-in_err-curve_fault.ensures.1 w1 c.in_err-curve_fault.ensures
 
-pub returns-then-shift-ne0 : goal.returns-then-shift-ne0
-returns-then-shift-ne0 c =
-    let w0 = link_go _ _ _ _ refl c.blank_fault-blank.ensures c.if-blank-ne0.false in
-    let w1 = link_go _ _ _ _ w0 c.curve_fault-curve.ensures c.if-curve-ne0.false in
-    link_stop _ _ _ _ w1 c.shift_fault-shift.ensures c.if-shift-ne0.true
+pub returns-in_err-shift_fault : goal.returns-in_err-shift_fault
+returns-in_err-shift_fault c =
+    let w1 = link_ok _ _ _ refl c.in_ok-blank_fault.ensures in
+    let w2 = link_ok _ _ _ w1 c.in_ok-curve_fault.ensures in
+    link_exit _ _ _ _ _ c.from_residual-in_err-shift_fault.ensures.1 w2 c.in_err-shift_fault.ensures
 
-pub returns-then-bounds-ne0 : goal.returns-then-bounds-ne0
-returns-then-bounds-ne0 c =
-    let w0 = link_go _ _ _ _ refl c.blank_fault-blank.ensures c.if-blank-ne0.false in
-    let w1 = link_go _ _ _ _ w0 c.curve_fault-curve.ensures c.if-curve-ne0.false in
-    let w2 = link_go _ _ _ _ w1 c.shift_fault-shift.ensures c.if-shift-ne0.false in
-    link_stop _ _ _ _ w2 c.bounds_fault-bounds.ensures c.if-bounds-ne0.true
+pub returns-in_err-bounds_fault : goal.returns-in_err-bounds_fault
+returns-in_err-bounds_fault c =
+    let w1 = link_ok _ _ _ refl c.in_ok-blank_fault.ensures in
+    let w2 = link_ok _ _ _ w1 c.in_ok-curve_fault.ensures in
+    let w3 = link_ok _ _ _ w2 c.in_ok-shift_fault.ensures in
+    link_exit _ _ _ _ _ c.from_residual-in_err-bounds_fault.ensures.1 w3 c.in_err-bounds_fault.ensures
 
 pub returns : goal.returns
 returns c =
-    let w0 = link_go _ _ _ _ refl c.blank_fault-blank.ensures c.if-blank-ne0.false in
-    let w1 = link_go _ _ _ _ w0 c.curve_fault-curve.ensures c.if-curve-ne0.false in
-    let w2 = link_go _ _ _ _ w1 c.shift_fault-shift.ensures c.if-shift-ne0.false in
-    let w3 = link_go _ _ _ _ w2 c.bounds_fault-bounds.ensures c.if-bounds-ne0.false in
-    c.branches_fault.ensures ∙ sym w3
+    let w1 = link_ok _ _ _ refl c.in_ok-blank_fault.ensures in
+    let w2 = link_ok _ _ _ w1 c.in_ok-curve_fault.ensures in
+    let w3 = link_ok _ _ _ w2 c.in_ok-shift_fault.ensures in
+    let w4 = link_ok _ _ _ w3 c.in_ok-bounds_fault.ensures in
+    c.branches_fault.ensures ∙ sym w4

@@ -1,5 +1,6 @@
-use mathlib.Core.Path.{sym, subst}
+use mathlib.Core.Path.{ap, sym, subst, ◌∙◌}
 use lib.Dec.{T}
+use Rattle.base.specs.Fault.{packed}
 use Rattle.validate.proofs.boundary.fervoulk_check.Goals as goal
 
 pub returns : goal.returns
@@ -9,4 +10,4 @@ returns c =
     let numbers = c.shared_slice_known-2-1.given in
     let point = c.shared_slice_known-3-1.given in
     let tolerances = c.shared_slice_known-4-1.given in
-    (rw (c.packed.ensures, is.0), is.1, numbers, point, finite, tolerances)
+    (c.packed.ensures ∙ ap (λ a. packed a.fault) is.0, is.1, numbers, point, finite, tolerances)

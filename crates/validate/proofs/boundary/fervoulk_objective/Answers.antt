@@ -1,5 +1,5 @@
-use mathlib.Core.Path.{ap}
+use mathlib.Core.Path.{ap, ◌∙◌}
 use Rattle.validate.proofs.boundary.fervoulk_objective.Goals as goal
 
 pub returns : goal.returns
-returns c = let is = c.check-answer.ensures in (ap (λ r. r.objective) is.0, is.1)
+returns c = let is = c.check-answer.ensures in (c.objective.ensures ∙ ap (λ r. r.objective) is.0, is.1)

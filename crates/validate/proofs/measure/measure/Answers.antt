@@ -1,48 +1,30 @@
-use native.Mathlib.Omega.{arith}
-use Rattle.validate.proofs.Verdict.{measures_15, measures_0}
+use mathlib.Core.Path.{◌∙◌}
+use Rattle.base.proofs.Refusals.{exit_shown}
+use Rattle.validate.proofs.Verdict.{derived_is, solved_outputs, solved_objective, solved_residuals}
 use Rattle.validate.proofs.measure.measure.Goals as goal
 
-pub fill_outputs-requires : goal.fill_outputs-requires
-fill_outputs-requires c = c.requires
-
-pub costs_at-costs-requires : goal.costs_at-costs-requires
-costs_at-costs-requires c = c.requires.0
-
-pub overflow_mul-count : goal.overflow_mul-count
-overflow_mul-count c =
-    let L = c.requires.0.laid.words in
-    omega (arith, L.few_buses, L.few_branches)
-
-pub overflow_mul-count-2 : goal.overflow_mul-count-2
-overflow_mul-count-2 c =
-    let L = c.requires.0.laid.words in
-    omega (arith, L.few_buses, L.few_branches)
-
-pub overflow_add-count : goal.overflow_add-count
-overflow_add-count c =
-    let L = c.requires.0.laid.words in
-    omega (arith, L.few_buses, L.few_branches)
-
-pub derived_fault-fault-requires : goal.derived_fault-fault-requires
-derived_fault-fault-requires c =
-    let L = c.requires.0.laid.words in
-    (c.fill_outputs.ensures.room, omega (arith, L.few_buses, L.few_branches))
-
-pub returns-then-fault-ne0 : goal.returns-then-fault-ne0
-returns-then-fault-ne0 c =
-    let pre = c.requires in
-    let held = c.fill_outputs.ensures in
-    let costs = c.costs_at-costs.ensures in
-    measures_15 _ pre.0.laid held costs c.derived_fault-fault.ensures _ c.if-fault-ne0.true
-
 pub residuals_at-requires : goal.residuals_at-requires
-residuals_at-requires c =
-    let pre = c.requires in
-    (pre.0, c.fill_outputs.ensures, c.costs_at-costs.ensures)
+residuals_at-requires c = rw c.new-derived.ensures c.costs_at-costs.ensures
 
-pub returns : goal.returns
-returns c =
-    let pre = c.requires in
-    let held = c.fill_outputs.ensures in
-    let costs = c.costs_at-costs.ensures in
-    measures_0 _ pre.0.laid held costs c.derived_fault-fault.ensures _ c.residuals_at.ensures
+pub returns-in_err-fault-clause-fault : goal.returns-in_err-fault-clause-fault
+returns-in_err-fault-clause-fault c =
+    let filled = rw c.new-derived.ensures at c.new-derived.result.filled in
+    exit_shown _ _ c.from_residual.ensures.1 ∙ c.in_err-fault.ensures ∙ derived_is _ _ _ _ filled c.costs_at-costs.ensures.objective_is
+
+pub returns-clause-fault : goal.returns-clause-fault
+returns-clause-fault c =
+    let filled = rw c.new-derived.ensures at c.new-derived.result.filled in
+    c.in_ok-fault.ensures ∙ derived_is _ _ _ _ filled c.costs_at-costs.ensures.objective_is
+
+pub returns-clause-outputs : goal.returns-clause-outputs
+returns-clause-outputs c =
+    let filled = rw c.new-derived.ensures at c.new-derived.result.filled in
+    solved_outputs _ _ _ _ filled c.costs_at-costs.ensures.objective_is
+
+pub returns-clause-objective : goal.returns-clause-objective
+returns-clause-objective c =
+    let filled = rw c.new-derived.ensures at c.new-derived.result.filled in
+    solved_objective _ _ _ _ filled c.costs_at-costs.ensures.objective_is
+
+pub returns-clause-residuals : goal.returns-clause-residuals
+returns-clause-residuals c = solved_residuals _ _ _ _ (rw c.new-derived.ensures at c.residuals_at.ensures)

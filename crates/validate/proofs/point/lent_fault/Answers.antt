@@ -1,15 +1,16 @@
-use mathlib.Core.Path.{ap, sym, ◌∙◌}
-use Rattle.base.proofs.Firsts.{or_go, or_stop}
+use mathlib.Core.Path.{refl, sym, ◌∙◌}
+use Rattle.base.proofs.Refusals.{link_exit, link_ok}
+use Rattle.validate.specs.Check.{fault_output}
 use Rattle.validate.proofs.point.lent_fault.Goals as goal
 
-pub returns-then-short-ne0 : goal.returns-then-short-ne0
-returns-then-short-ne0 c =
-    λ ws xs x solver e.
-    let is = c.output_fault-short.ensures ws xs x solver e in
-    is ∙ sym (or_stop _ _ (λ z. c.if-short-ne0.true (ap (λ f. f.number) is ∙ z)))
+pub returns-in_err-unless : goal.returns-in_err-unless
+unfolding fault_output
+returns-in_err-unless c =
+    let L = c.args.tables.now.laid.words.is in
+    λ x solver. link_exit _ _ _ _ _ c.from_residual.ensures.1 refl (rw (c.output_count.ensures, L) at c.in_err-unless.ensures)
 
 pub returns : goal.returns
+unfolding fault_output
 returns c =
-    λ ws xs x solver e.
-    let clear = ap (λ f. f.number) (sym (c.output_fault-short.ensures ws xs x solver e)) ∙ c.if-short-ne0.false in
-    c.tolerance_fault.ensures ∙ sym (or_go _ _ clear)
+    let L = c.args.tables.now.laid.words.is in
+    λ x solver. c.tolerance_fault.ensures ∙ sym (link_ok _ _ _ refl (rw (c.output_count.ensures, L) at c.in_ok-unless.ensures))

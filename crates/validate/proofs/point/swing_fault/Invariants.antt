@@ -1,4 +1,3 @@
-use Prim.Native.Nat.{◌-◌, ◌≤◌}
 use lib.Ieee.{nan}
 use lib.ListN.{get_or}
 use Rattle.base.proofs.Firsts.{Clear}
@@ -7,7 +6,4 @@ use Rattle.bounds.specs.Bounds.{angle_right}
 use Rattle.validate.proofs.point.swing_fault.Given as goal
 
 abbrev pub invariant-loop-i : goal.invariant-loop-i
-invariant-loop-i l = (l.i ≤ l.n) × Clear (first l.i (λ j. unless (angle_right (get_or l.point j nan)) (fault 14 j)))
-
-abbrev pub decreases-loop-i : goal.decreases-loop-i
-decreases-loop-i l = l.n - l.i
+invariant-loop-i l = Clear (first l.i (λ j. unless (angle_right (get_or l.candidate.point.now j nan)) (fault 14 j)))

@@ -1,55 +1,27 @@
 use native.Mathlib.Omega.{arith}
-use Rattle.validate.proofs.Verdict.{cleared_eight, says_15, says_16, says_0}
+use Rattle.std.proofs.lemmas.Result.{err_from_is_err_and}
+use Rattle.validate.proofs.Verdict.{cleared_eight, outputs_length, says_15, says_16, says_0}
 use Rattle.validate.proofs.primal.verdict.Goals as goal
 
-pub measure-measured-requires : goal.measure-measured-requires
-measure-measured-requires c =
-    (c.requires.0.ready, c.requires.1)
+pub returns-in_err-measured : goal.returns-in_err-measured
+returns-in_err-measured c =
+    let p = err_from_is_err_and c.from_residual.result c.from_residual.ensures.1 in
+    rw (p.1, p.2) (says_15 _ _ _ _ _ _ c.requires.0.cleared _ c.in_err-measured.ensures.fault)
 
-pub returns-then-derived-ne0 : goal.returns-then-derived-ne0
-returns-then-derived-ne0 c =
-    let pre = c.requires in
-    let args = c.args in
-    let measured = c.measure-measured.ensures in
-    says_15 pre.0.ready.laid measured args.tolerances.now args.outputs.now pre.0.cleared c.refused.result c.refused.ensures c.if-derived-ne0.true
-
-pub residual_fault-above-requires : goal.residual_fault-above-requires
-residual_fault-above-requires c = cleared_eight _ _ _ _ _ _ c.requires.0.cleared
-
-pub returns-then-refuses : goal.returns-then-refuses
-returns-then-refuses c =
-    let pre = c.requires in
-    let args = c.args in
-    let measured = c.measure-measured.ensures in
-    let above = c.residual_fault-above in
-    says_16 pre.0.ready.laid measured args.tolerances.now args.outputs.now pre.0.cleared c.if-derived-ne0.false above.result above.ensures c.if-refuses.true
-
-pub overflow_mul-layout : goal.overflow_mul-layout
-overflow_mul-layout c =
-    let L = c.requires.0.ready.laid.words in
-    omega (arith, L.few_buses, L.few_branches)
-
-pub overflow_mul-layout-2 : goal.overflow_mul-layout-2
-overflow_mul-layout-2 c =
-    let L = c.requires.0.ready.laid.words in
-    omega (arith, L.few_buses, L.few_branches)
-
-pub overflow_add-layout : goal.overflow_add-layout
-overflow_add-layout c =
-    let L = c.requires.0.ready.laid.words in
-    omega (arith, L.few_buses, L.few_branches)
+pub residual_fault-requires : goal.residual_fault-requires
+residual_fault-requires c = cleared_eight _ _ _ _ _ _ c.requires.0.cleared
 
 pub copy_front-requires : goal.copy_front-requires
 copy_front-requires c =
-    let pre = c.requires in
-    let kept = c.measure-measured.auto.scratch in
-    (omega (arith, pre.1, kept), pre.0.room)
+    let m = c.in_ok-measured.ensures in
+    rw m.outputs (omega (arith, outputs_length c.args.candidate.now.tables.words.now c.args.candidate.now.tables.numbers.now c.args.candidate.now.point.now c.args.solver, c.requires.0.room))
 
-pub returns : goal.returns
-returns c =
-    let pre = c.requires in
-    let args = c.args in
-    let measured = c.measure-measured.ensures in
-    let above = c.residual_fault-above in
-    let finite = c.if-derived-ne0.false in
-    says_0 pre.0.ready.laid measured args.tolerances.now args.outputs.now pre.0.cleared finite above.result above.ensures _ c.if-refuses.false c.copy_front.ensures
+pub returns-in-Err : goal.returns-in-Err
+returns-in-Err c =
+    let m = c.in_ok-measured.ensures in
+    says_16 _ _ _ _ _ _ c.requires.0.cleared m.fault _ m.residuals _ c.in-Err.ensures
+
+pub returns-in-Ok : goal.returns-in-Ok
+returns-in-Ok c =
+    let m = c.in_ok-measured.ensures in
+    says_0 _ _ _ _ _ _ c.requires.0.cleared m.fault _ m.residuals _ _ _ c.in-Ok.ensures m.outputs m.objective c.copy_front.ensures

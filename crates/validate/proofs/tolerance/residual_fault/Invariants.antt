@@ -1,5 +1,5 @@
 use mathlib.Core.Bool.{not}
-use Prim.Native.Nat.{◌+◌, ◌-◌, ◌≤◌}
+use Prim.Native.Nat.{◌+◌}
 use lib.Ieee.{nan, lt}
 use lib.ListN.{get_or}
 use Rattle.base.specs.Fault.{fault, unless, first}
@@ -8,7 +8,4 @@ use Rattle.base.proofs.Firsts.{Clear}
 use Rattle.validate.proofs.tolerance.residual_fault.Given as goal
 
 abbrev pub invariant-loop-i : goal.invariant-loop-i
-invariant-loop-i l = (l.i ≤ 8) × Clear (first l.i (λ j. unless (not (lt (get_or l.tolerances j nan) (get_or l.residuals j nan))) (fault RESIDUAL (j + 1))))
-
-abbrev pub decreases-loop-i : goal.decreases-loop-i
-decreases-loop-i l = 8 - l.i
+invariant-loop-i l = Clear (first l.i (λ j. unless (not (lt (get_or l.tolerances j nan) (get_or l.residuals j nan))) (fault RESIDUAL (j + 1))))

@@ -1,4 +1,4 @@
-use Prim.Native.Nat.{◌+◌, ◌-◌, ◌≤◌}
+use Prim.Native.Nat.{◌+◌}
 use lib.Ieee.{nan}
 use lib.ListN.{get_or}
 use Rattle.base.specs.Fault.{fault, unless, first}
@@ -8,7 +8,4 @@ use Rattle.validate.specs.Tolerances.{tolerance_right}
 use Rattle.validate.proofs.tolerance.tolerance_fault.Given as goal
 
 abbrev pub invariant-loop-i : goal.invariant-loop-i
-invariant-loop-i l = (l.i ≤ 8) × Clear (first l.i (λ j. unless (tolerance_right (get_or l.tolerances j nan)) (fault TOLERANCE (j + 1))))
-
-abbrev pub decreases-loop-i : goal.decreases-loop-i
-decreases-loop-i l = 8 - l.i
+invariant-loop-i l = Clear (first l.i (λ j. unless (tolerance_right (get_or l.tolerances j nan)) (fault TOLERANCE (j + 1))))

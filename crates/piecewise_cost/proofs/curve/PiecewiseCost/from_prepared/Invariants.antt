@@ -1,13 +1,9 @@
 use mathlib.Core.Path.{◌≡◌}
-use Prim.Native.Nat.{◌-◌, ◌≤◌}
+use Prim.Native.Nat.{◌-◌}
 use lib.ListN.{length}
 use Rattle.network.specs.Limits.{most_points}
 use Rattle.piecewise_cost.specs.internal.Prepared.{Prepared}
 use Rattle.piecewise_cost.proofs.curve.PiecewiseCost.from_prepared.Given as goal
 
 abbrev pub invariant-loop-segment : goal.invariant-loop-segment
-invariant-loop-segment l =
-    (l.segment ≤ l.count) × (l.count ≡ l.points - 1) × (length l.slopes ≡ most_points - 1) × (length l.intercepts ≡ most_points - 1) × Prepared l.numbers l.at l.segment l.slopes l.intercepts
-
-abbrev pub decreases-loop-segment : goal.decreases-loop-segment
-decreases-loop-segment l = l.count - l.segment
+invariant-loop-segment l = (length l.segments ≡ most_points - 1) × Prepared l.numbers l.at l.segment l.segments

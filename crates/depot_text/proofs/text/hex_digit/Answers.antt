@@ -1,9 +1,0 @@
-use Prim.Native.Nat.{◌%◌}
-use borrow.Author.Tests.{lt-ltb, le-ltb}
-use Rattle.depot_text.proofs.text.hex_digit.Goals as goal
-
-pub returns-then-d-lt10 : goal.returns-then-d-lt10
-returns-then-d-lt10 c = rw (lt-ltb (c.args.n % 16) 10 c.if-d-lt10.true)
-
-pub returns-else-d-lt10 : goal.returns-else-d-lt10
-returns-else-d-lt10 c = rw (le-ltb (c.args.n % 16) 10 c.if-d-lt10.false)

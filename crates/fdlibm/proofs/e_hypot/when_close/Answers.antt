@@ -1,4 +1,0 @@
-use Rattle.fdlibm.proofs.e_hypot.when_close.Goals as goal
-
-pub returns : goal.returns
-returns c = rw (c.sqrt.ensures, c.from_high_word-t1.ensures, c.from_high_word-y1.ensures)

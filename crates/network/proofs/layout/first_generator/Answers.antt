@@ -1,6 +1,0 @@
-use mathlib.Core.Path.{refl}
-use Rattle.network.proofs.Forms.{first_standing}
-use Rattle.network.proofs.layout.first_generator.Goals as goal
-
-pub returns : goal.returns
-returns c = (first_standing c.requires refl refl, refl)

@@ -1,0 +1,89 @@
+// A network's tables: the two lists with their layout, and their records by name.
+ghost use Rattle.network.specs.Layout.{Laid};
+
+use crate::layout::{BRANCH_NUMBERS, BUS_NUMBERS, Cursor, Layout};
+use crate::records::{Branch, Bus, branch_at, bus_at};
+use crate::walk::Generators;
+use crate::word::{
+    branch_angled, branch_from, branch_limited, branch_to, bus_bounded, reference_bus,
+};
+
+// Words and numbers that 1 to 3 do not refuse, and where the records stand in them.
+#[derive(Clone, Copy)]
+pub struct Tables<'a> {
+    pub words: &'a [u32],
+    pub numbers: &'a [f64],
+    pub layout: Layout,
+    pub ghost laid: { Laid words.now numbers.now layout },
+}
+
+impl<'a> Tables<'a> {
+    ghost use Rattle.std.specs.Prelude.{◌≡◌, ◌+◌, ◌<◌, ◌≤◌, length};
+    ghost use Rattle.network.specs.Limits.{bus_numbers, branch_numbers};
+    ghost use Rattle.network.specs.Network.{referred, bus_at, branch_at};
+    ghost use Rattle.network.specs.internal.Records.{bus_record, BranchRead};
+
+    pub fn bus(&self, i: usize) -> Bus
+        requires { i < self.now.layout.buses }
+        ensures { result ≡ bus_record self.now.words.now self.now.numbers.now i }
+    {
+        let bounded = bus_bounded(self.words[1 + i]);
+        bus_at(self.numbers, BUS_NUMBERS * i, bounded)
+    }
+
+    // The place of the bus's first number.
+    pub fn bus_start(&self, i: usize) -> usize
+        requires { i < self.now.layout.buses }
+        ensures { (result ≡ bus_at self.now.words.now i) × (result + bus_numbers ≤ length self.now.numbers.now) }
+    {
+        BUS_NUMBERS * i
+    }
+
+    pub fn branch(&self, b: usize) -> Branch
+        requires { b < self.now.layout.branches }
+        ensures { BranchRead self.now.words.now self.now.numbers.now self.now.layout b result }
+    {
+        let at = self.branch_start(b);
+        let first = self.layout.branch_words;
+        let w = self.words[first + b];
+        branch_at(
+            self.numbers,
+            at,
+            branch_from(w),
+            branch_to(w),
+            branch_angled(w),
+            branch_limited(w),
+        )
+    }
+
+    // The place of the branch's first number.
+    pub fn branch_start(&self, b: usize) -> usize
+        requires { b < self.now.layout.branches }
+        ensures { (result ≡ branch_at self.now.words.now b) × (result + branch_numbers ≤ length self.now.numbers.now) }
+    {
+        self.layout.branch_numbers + BRANCH_NUMBERS * b
+    }
+
+    // The bus of reference r.
+    pub fn reference(&self, r: usize) -> usize
+        requires { r < self.now.layout.references }
+        ensures { (result ≡ referred self.now.words.now r) × (result < self.now.layout.buses) }
+    {
+        let first = self.layout.reference_words;
+        reference_bus(self.words[first + r])
+    }
+
+    // The generators with their numbers, in order.
+    pub fn generators(&self) -> Generators<'a>
+        ensures { (result.tables ≡ self.now) × (result.cursor.index ≡ 0) }
+    {
+        let cursor = Cursor {
+            index: 0,
+            at: self.layout.generator_numbers,
+        };
+        Generators {
+            tables: *self,
+            cursor,
+        }
+    }
+}
