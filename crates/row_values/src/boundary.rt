@@ -5,7 +5,7 @@ ghost use Rattle.model_reading.specs.Counts.{row_counts, counts_or_none};
 ghost use Rattle.row_values.specs.Answer.{row_values, shared_after, rows_after};
 
 use crate::row_values;
-use model_reading::row_counts;
+use model_reading::{Counts, row_counts};
 use nl::ModelFile;
 
 // The refusal's number times 2 to the power 32, plus its place, which is capped.
@@ -48,17 +48,24 @@ pub extern "C" fn fervoulk_row_values_objective(
     answer.map_or(0.0, |values| values.objective)
 }
 
-// How many shared parts a model file has; 0 where 17 or 2 refuses it.
-#[unsafe(no_mangle)]
-pub extern "C" fn fervoulk_shared_count(words: &[u32], constants: usize, columns: usize) -> usize
-    ensures { result ≡ (counts_or_none (row_counts words.now constants columns)).shared }
+// How many shared parts and rows a model file has; none where 17 or 2 refuses it.
+fn counts_of(words: &[u32], constants: usize, columns: usize) -> Counts
+    ensures { result ≡ counts_or_none (row_counts words.now constants columns) }
 {
     let file = ModelFile {
         words,
         constants,
         columns,
     };
-    row_counts(&file).map_or(0, |counts| counts.shared)
+    row_counts(&file).unwrap_or(Counts { shared: 0, rows: 0 })
+}
+
+// How many shared parts a model file has; 0 where 17 or 2 refuses it.
+#[unsafe(no_mangle)]
+pub extern "C" fn fervoulk_shared_count(words: &[u32], constants: usize, columns: usize) -> usize
+    ensures { result ≡ (counts_or_none (row_counts words.now constants columns)).shared }
+{
+    counts_of(words, constants, columns).shared
 }
 
 // How many rows it has; 0 likewise.
@@ -66,10 +73,5 @@ pub extern "C" fn fervoulk_shared_count(words: &[u32], constants: usize, columns
 pub extern "C" fn fervoulk_row_count(words: &[u32], constants: usize, columns: usize) -> usize
     ensures { result ≡ (counts_or_none (row_counts words.now constants columns)).rows }
 {
-    let file = ModelFile {
-        words,
-        constants,
-        columns,
-    };
-    row_counts(&file).map_or(0, |counts| counts.rows)
+    counts_of(words, constants, columns).rows
 }
