@@ -24,7 +24,8 @@ fn verdict(
     outputs: &mut [f64],
 ) -> Result<Checked, Refusal>
     requires { let layout = candidate.now.tables.layout in
-        (Opened candidate.now.tables.words.now candidate.now.tables.numbers.now candidate.now.point.now solver tolerances.now (length outputs.old))
+        (Opened candidate.now.tables.words.now candidate.now.tables.numbers.now candidate.now.point.now solver
+        tolerances.now (length outputs.old))
         × (2 * layout.buses + 4 * layout.branches ≤ length scratch.old) }
     ensures { Answers candidate.now.tables.words.now candidate.now.tables.numbers.now candidate.now.point.now solver tolerances.now
         outputs.old outputs.new (answer_in result) }
@@ -54,7 +55,8 @@ fn settled(
     tolerances: &[f64],
     outputs: &mut [f64],
 ) -> Result<Checked, Refusal>
-    requires { Opened candidate.now.tables.words.now candidate.now.tables.numbers.now candidate.now.point.now solver tolerances.now (length outputs.old) }
+    requires { Opened candidate.now.tables.words.now candidate.now.tables.numbers.now candidate.now.point.now solver
+        tolerances.now (length outputs.old) }
     ensures { Answers candidate.now.tables.words.now candidate.now.tables.numbers.now candidate.now.point.now solver tolerances.now
         outputs.old outputs.new (answer_in result) }
 {
