@@ -15,6 +15,8 @@ pub struct Case<'a> {
 }
 
 impl<'a> Case<'a> {
+    ghost use Rattle.network.specs.Network.{columns};
+
     #[tactic(auto, using(crate::proofs::Tallied::few))]
     pub fn new(tables: &Tables<'a>) -> Case<'a>
         ensures { result.tables ≡ tables.now }
@@ -23,5 +25,13 @@ impl<'a> Case<'a> {
             tables: *tables,
             tallies: tallies_of(tables),
         }
+    }
+
+    // How many columns the model has: va, vm, pg, qg, then the epigraphs.
+    pub fn columns(&self) -> usize
+        ensures { result ≡ columns self.now.tables.words.now }
+    {
+        let layout = self.tables.layout;
+        2 * layout.buses + 2 * layout.generators + self.tallies.epigraphs
     }
 }

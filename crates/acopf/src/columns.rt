@@ -8,7 +8,10 @@ ghost use Rattle.piecewise_cost.specs.Curve.{evaluate};
 
 use bounds::clamp_start;
 use network::{Bus, Generator};
-use piecewise_cost::curve_value;
+use piecewise_cost::Curve;
+
+// These four differ in what an inactive bound is. A float can't be a const parameter, and a common function that took it would have the body
+// of each and leave a call of it to them.
 
 // The bounds of the bus's vm where they are active, else 0 and 1e19.
 pub fn vm_lower(bus: Bus) -> f64
@@ -71,5 +74,5 @@ pub fn epigraph_start(numbers: &[f64], generator: Generator) -> f64
         generator.p_min,
         generator.p_max,
     );
-    curve_value(numbers, generator.curve, generator.points, power)
+    Curve::new(numbers, &generator).value(power)
 }

@@ -9,4 +9,4 @@ mod tallies;
 pub use case::Case;
 pub use columns::{epigraph_start, generator_start, lower_bound, upper_bound, vm_lower, vm_upper};
 pub use objective::{objective_constant, objective_constants};
-pub use tallies::{Tallies, counted, row_segments, tallies_of};
+pub use tallies::{Tallies, row_segments, tallies_of};

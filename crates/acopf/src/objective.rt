@@ -12,14 +12,14 @@ pub fn objective_constant(tables: &Tables) -> f64
 {
     let mut sum = 0.0;
     for (_, generator) in tables.generators() {
-        if tables.layout.costs & !generator.curved {
+        if tables.layout.costs & !generator.curved() {
             sum += generator.cost_0;
         }
     }
     sum
 }
 
-// Two a generator without a curve, or the one of an empty sum.
+// Two a generator without a curve, or the one of an empty sum. Of any three such values, and so of no Case.
 pub fn objective_constants(costs: bool, k: usize, epigraphs: usize) -> usize
     requires { (epigraphs ≤ k) × (k ≤ most_generators) }
     ensures { (result ≡ cond (costs && not (eqb k 0)) (2 * (k - epigraphs)) 1) × (result ≤ 2 * most_generators) }

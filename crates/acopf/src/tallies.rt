@@ -1,5 +1,5 @@
 // What the lengths of compile's lists are sums of, beside the layout's own counts: one pass over the generators and one over the branches.
-ghost use Rattle.std.specs.Prelude.{◌≡◌, cond, suc, ◌+◌, ◌-◌, ◌*◌, ◌≤◌};
+ghost use Rattle.std.specs.Prelude.{◌≡◌, cond, ◌-◌, ◌*◌, ◌≤◌};
 ghost use Rattle.base.specs.Loop.{tally};
 ghost use Rattle.network.specs.Limits.{most_points};
 ghost use Rattle.network.specs.Network.{angled, rated, epigraphs_before};
@@ -15,18 +15,7 @@ pub struct Tallies {
     pub epigraphs: usize,
 }
 
-// One more where the test holds.
-pub fn counted(count: usize, test: bool) -> usize
-    requires { count ≤ 0xffff }
-    ensures { (result ≡ cond test (suc count) count) × (result ≤ count + 1) }
-{
-    if test {
-        return count + 1;
-    }
-    count
-}
-
-// How many of a curve's segments have rows.
+// How many of a curve's segments have rows. Of any flag and number, and so of no Generator.
 pub fn row_segments(curved: bool, points: usize) -> usize
     ensures { (result ≡ cond curved (points - 1) 0) × (result ≤ points) }
 {
@@ -48,8 +37,9 @@ fn curve_tallies(tables: &Tables) -> Curves
     let mut epigraphs = 0usize;
     let mut segments = 0usize;
     for (_, generator) in tables.generators() {
-        epigraphs = counted(epigraphs, generator.curved);
-        segments += row_segments(generator.curved, generator.points);
+        let curved = generator.curved();
+        epigraphs += usize::from(curved);
+        segments += row_segments(curved, generator.points);
     }
     Curves {
         epigraphs,
@@ -73,8 +63,8 @@ fn branch_tallies(tables: &Tables) -> Limits
     let mut ratings = 0usize;
     for b in 0..tables.layout.branches {
         let branch = tables.branch(b);
-        angles = counted(angles, branch.angled);
-        ratings = counted(ratings, branch.rated);
+        angles += usize::from(branch.angled);
+        ratings += usize::from(branch.rated());
     }
     Limits {
         angles,

@@ -4,13 +4,15 @@ ghost use Rattle.std.specs.Float.Ieee.{neg};
 ghost use Rattle.base.specs.Loop.{each};
 ghost use Rattle.float.specs.Number.{one64};
 ghost use Rattle.nl.specs.Expr.{shared};
+ghost use Rattle.network.specs.Limits.{most_buses};
 ghost use Rattle.acopf.specs.Build.{scaled};
 ghost use Rattle.writer.specs.internal.Tokens.{Written, Room, list_tokens};
+ghost use Rattle.balance.specs.internal.Items.{most_items};
 ghost use Rattle.balance.specs.internal.Balance.{row_of, row_head, flow_at, item_tokens, row_tokens, balance_of, balances_of};
 
-use crate::group::{Groups, group_items};
-use crate::item::{Item, Side};
-use network::Tables;
+use crate::group::Groups;
+use crate::item::{Item, MOST_ITEMS, Side};
+use network::{MOST_BUSES, Tables};
 use nl::{Kind, Mark};
 use writer::{ModelWriter, WordKind};
 
@@ -22,7 +24,8 @@ pub enum Power {
 }
 
 // A balance row but for its items, of which the first `generators` are generators: `column` is the first generator's, `part` the first
-// branch's flow at its from end.
+// branch's flow at its from end. That these are small stands in clauses: definitions and laws make rows of any numbers, and a ghost field
+// would ask each of them for its proof.
 #[derive(Clone, Copy, Debug, PartialEq)]
 pub struct Row {
     pub bus: usize,
@@ -111,7 +114,7 @@ fn flow_at(side: Side) -> usize
 
 // The term of item j: a generator's column, or a branch end's flow.
 fn item_term(writer: &mut ModelWriter, row: Row, j: usize)
-    requires small { (j < 1280) × (row.column ≤ 1024) × (row.part ≤ 261) }
+    requires small { (j < most_items) × (row.column ≤ 1024) × (row.part ≤ 261) }
     requires room { Room writer.old (item_tokens row j) }
     ensures { Written writer.old (item_tokens row j) writer.new }
 {
@@ -121,13 +124,13 @@ fn item_term(writer: &mut ModelWriter, row: Row, j: usize)
     }
 }
 
-// The sum's own word says how many terms follow. Inlined, as the functions that write and have two callers: the writer's places then stay
-// in registers.
+// The sum's own word says how many terms follow. Inlined, as balance_rows, which is called twice: the writer's places then stay in
+// registers.
 #[inline(always)]
 fn balance_row(writer: &mut ModelWriter, row: Row, items: &[u16])
-    requires small { (row.bus < 256) × (row.column ≤ 1024) × (row.part ≤ 261) }
-    requires few { length items.now ≤ 1280 }
-    requires below { (s : ℕ) → s < length items.now → get_or items.now s 0 < 1280 }
+    requires small { (row.bus < most_buses) × (row.column ≤ 1024) × (row.part ≤ 261) }
+    requires few { length items.now ≤ most_items }
+    requires below { (s : ℕ) → s < length items.now → get_or items.now s 0 < most_items }
     requires room { Room writer.old (row_tokens row items.now) }
     ensures { Written writer.old (row_tokens row items.now) writer.new }
 {
@@ -158,15 +161,10 @@ pub fn balances(writer: &mut ModelWriter, tables: &Tables)
         (balances_of tables.now.words.now tables.now.numbers.now tables.now.layout.buses)
         writer.new }
 {
-    let mut items = [0u16; 1280];
-    let mut ends = [0u16; 256];
+    let mut items = [0u16; MOST_ITEMS];
+    let mut ends = [0u16; MOST_BUSES];
     let ends = &mut ends[..tables.layout.buses];
-    group_items(tables, ends, &mut items);
-    let groups = Groups {
-        tables,
-        items: &items,
-        ends,
-    };
+    let groups = Groups::new(tables, ends, &mut items);
     balance_rows(writer, &groups, Power::Active);
     balance_rows(writer, &groups, Power::Reactive);
 }

@@ -1,17 +1,21 @@
--- Laws of sections: none, one element, one section after the other, and one turn of each loop that writes a section.
-use mathlib.Core.Path.{◌≡◌, refl, sym, ap, subst, ◌∙◌}
+-- Laws of sections: none, one element, a copy, one section after the other, and one turn of each loop that writes a section.
+use mathlib.Core.Path.{◌≡◌, refl, sym, ap, ◌∙◌}
 use mathlib.Core.Bool.{Bool, true, false}
-use mathlib.Core.List.{List, [], ◌∷◌, ◌++◌}
-use Prim.Native.Nat.{ℕ, zero, suc, ◌+◌, ◌≤◌, ◌<◌}
-use native.Mathlib.Nat.{add-zero, zero-add, add-suc, suc-add, add_assoc}
+use mathlib.Core.List.{List, [], ◌∷◌, ◌++◌, append_assoc}
+use Prim.Native.Nat.{ℕ, zero, suc, ◌+◌, ◌-◌, ◌≤◌, ◌<◌}
+use native.Mathlib.Nat.{add-zero, zero-add, add-suc, suc-add}
 use native.Mathlib.Numerals.{add-one}
 use native.Mathlib.Omega.{arith}
 use lib.Dec.{eqb}
-use lib.ListN.{length, length-append, drop, take, set, get_or, replicate, replicate-append-replicate}
-use lib.Seq.{take-suc, take-length, sets, sets-eq}
+use lib.ListN.{length, length-append, drop, take, set, replicate, replicate-append-replicate, length-replicate}
+use lib.Seq.{sets, sets-eq, length-sets}
+use borrow.Rule.Slice.PartMut.{put_mid}
+use Rattle.std.proofs.lemmas.Slice.{put_mid-paste}
+use Rattle.std.proofs.lemmas.List.Edits.{paste_all}
+use Rattle.base.specs.declared.section.ListWriter.{ListWriter}
 use borrow.Author.Tests.{eqb-true, eqb-false}
 use Rattle.base.specs.Loop.{loop, table, each}
-use Rattle.base.specs.internal.Section.{Wrote}
+use Rattle.base.specs.internal.Section.{Wrote, Added, Ends}
 
 module _ {A : Type 0} where
   sets_sets : (u v l : List A) (i : ℕ) → sets (sets l i u) (i + length u) v ≡ sets l i (u ++ v)
@@ -38,25 +42,42 @@ module _ {A : Type 0} where
       let e : 0 + length u ≡ length u = zero-add (length u) in
       p.holds ∙ rw e at (sets-eq u l 0 (rw e h))
 
-  -- ---- a copy, one element a turn
+  -- a section copied into the list
+  pub wrote_mid : (l : List A) {s t : List A} (to : ℕ) → t ≡ s → to + length s ≤ length l
+      → Wrote l to s (put_mid to (to + length s - to) l t) (to + length s)
+  wrote_mid l {s} {t} to e h = record {
+    holds = put_mid-paste to (to + length s - to) l t s (length s) e (omega arith) refl ∙ paste_all l to s (length s) refl ∙ sym (sets-eq s l to h ∙ append_assoc (take to l) s (drop (to + length s) l));
+    follows = refl;
+  }
 
-  pub take_step : {l m : List A} {to : ℕ} (part : List A) (i : ℕ) (d : A) → i < length part → Wrote l to (take i part) m (to + i)
-      → Wrote l to (take (i + 1) part) (set m (to + i) (get_or part i d)) (to + (i + 1))
-  take_step {l} {m} {to} part i d h p =
-      let e : take i part ++ (get_or part i d ∷ []) ≡ take (i + 1) part = sym (ap (λ k. take k part) (add-one i) ∙ take-suc part i d h) in
-      subst (λ t. Wrote l to t (set m (to + i) (get_or part i d)) (to + (i + 1))) e
-      (subst (λ k. Wrote l to (take i part ++ (get_or part i d ∷ [])) (set m (to + i) (get_or part i d)) k) (add_assoc to i 1)
-      (then p (wrote_one m (to + i) (get_or part i d))))
+  pub wrote_length : {l m s : List A} {to k : ℕ} → Wrote l to s m k → length m ≡ length l
+  wrote_length {l} {m} {s} {to} w = ap length w.holds ∙ length-sets l to s
 
-  pub take_done : {l m : List A} {to k : ℕ} (part : List A) (i : ℕ) → i ≡ length part → Wrote l to (take i part) m k → Wrote l to part m k
-  take_done {l} {m} {to} {k} part i e p = subst (λ t. Wrote l to t m k) (ap (λ n. take n part) e ∙ take-length part) p
+  -- ---- the same of a list writer
+
+  pub added_none : (p : ListWriter A) → Added p [] p
+  added_none p = record { wrote = wrote_none p.out.now p.at; same = refl }
+
+  pub added_one : {p q : ListWriter A} (a : A) → q.out.now ≡ set p.out.now p.at a → q.at ≡ p.at + 1 → q.out.ghost_name ≡ p.out.ghost_name → Added p (a ∷ []) q
+  added_one a e f g = record { wrote = rw (e, f) (wrote_one _ _ a); same = g }
+
+  pub added_then : {p q r : ListWriter A} {u v : List A} → Added p u q → Added q v r → Added p (u ++ v) r
+  added_then x y = record { wrote = then x.wrote y.wrote; same = y.same ∙ x.same }
+
+  pub added_length : {p q : ListWriter A} {u : List A} → Added p u q → length q.out.now ≡ length p.out.now
+  added_length x = wrote_length x.wrote
+
+  pub added_ends : {p q : ListWriter A} {u : List A} → Added p u q → Ends p (length u) q
+  added_ends x = record { at = x.wrote.follows; length = added_length x }
+
+  -- from the list's first place on
+  pub added_front : {p q : ListWriter A} {u : List A} → p.at ≡ 0 → Added p u q → length u ≤ length p.out.now → q.out.now ≡ u ++ drop (length u) p.out.now
+  added_front e x h = wrote_front (rw e at x.wrote) h
 
   -- ---- one value, again and again
 
-  pub wrote_value : {l m : List A} {to : ℕ} (i : ℕ) (a : A) → Wrote l to (replicate i a) m (to + i) → Wrote l to (replicate (i + 1) a) (set m (to + i) a) (to + (i + 1))
-  wrote_value {l} {m} {to} i a p =
-      let e : to + (i + 1) ≡ to + i + 1 = omega arith in
-      rw (← replicate-append-replicate i 1 a, e) (then p (wrote_one m (to + i) a))
+  pub added_value : {p q r : ListWriter A} (i : ℕ) (a : A) → Added p (replicate i a) q → Added q (a ∷ []) r → Added p (replicate (i + 1) a) r
+  added_value i a x y = rw (← replicate-append-replicate i 1 a) (added_then x y)
 
   pub table_value : (n : ℕ) (a : A) → table n (λ _. a) ≡ replicate n a
   unfolding table loop
@@ -65,29 +86,28 @@ module _ {A : Type 0} where
       let e : n + 1 ≡ suc n = omega arith in
       ap (λ l. l ++ (a ∷ [])) (table_value n a) ∙ replicate-append-replicate n 1 a ∙ ap (λ k. replicate k a) e
 
+  pub filled_ends : {p q : ListWriter A} (i : ℕ) (a : A) → Added p (replicate i a) q → Ends p i q
+  filled_ends i a x = rw (length-replicate i a) at (added_ends x)
+
   -- ---- a table, one element a turn
 
-  pub table_none : {l : List A} {to : ℕ} (f : ℕ → A) → Wrote l to (table 0 f) l (to + 0)
+  pub table_none : (p : ListWriter A) (f : ℕ → A) → Added p (table 0 f) p
   unfolding table loop
-  table_none f = record { holds = refl; follows = refl }
+  table_none p f = added_none p
 
-  pub table_next : {l m : List A} {to : ℕ} (f : ℕ → A) (i : ℕ) {a : A} → a ≡ f i → Wrote l to (table i f) m (to + i)
-      → Wrote l to (table (i + 1) f) (set m (to + i) a) (to + (i + 1))
+  pub added_table : {p q r : ListWriter A} (f : ℕ → A) (i : ℕ) {a : A} → a ≡ f i → Added p (table i f) q → Added q (a ∷ []) r → Added p (table (i + 1) f) r
   unfolding table loop
-  table_next {l} {m} {to} f i {a} e p =
-      let n : to + i + 1 ≡ to + (i + 1) = omega arith in
-      rw (add-one i, e) (rw (add-one i) at (rw n at (then p (wrote_one m (to + i) (f i)))))
+  added_table f i e x y = rw (add-one i) (added_then x (rw e at y))
 
   -- ---- lists, one a turn
 
-  pub each_none : {l : List A} {to : ℕ} (f : ℕ → List A) → Wrote l to (each 0 f) l to
+  pub each_none : (p : ListWriter A) (f : ℕ → List A) → Added p (each 0 f) p
   unfolding each loop
-  each_none {l} {to} f = wrote_none l to
+  each_none p f = added_none p
 
-  pub each_next : {l m l' : List A} {to j k : ℕ} (f : ℕ → List A) (i : ℕ) → Wrote l to (each i f) m j → Wrote m j (f i) l' k
-      → Wrote l to (each (i + 1) f) l' k
+  pub added_each : {p q r : ListWriter A} (f : ℕ → List A) (i : ℕ) → Added p (each i f) q → Added q (f i) r → Added p (each (i + 1) f) r
   unfolding each loop
-  each_next f i p q = rw (add-one i) (then p q)
+  added_each f i x y = rw (add-one i) (added_then x y)
 
   pub each_fits : (n : ℕ) (f : ℕ → List A) (i : ℕ) → i < n → length (each i f) + length (f i) ≤ length (each n f)
   unfolding each loop

@@ -1,5 +1,5 @@
 -- A refusal, its number and place (document 01, "Numbers a controller shows"), and the first of several.
-use Rattle.std.specs.Prelude.{ℕ, ◌+◌, ◌-◌, ◌*◌, ◌^◌, min, Bool, cond, List, [], ◌∷◌, ◌++◌, length, drop, eqb, Result, Ok, Err}
+use Rattle.std.specs.Prelude.{ℕ, ◌+◌, ◌-◌, ◌*◌, ◌^◌, min, Bool, cond, Option, Some, None, List, [], ◌∷◌, ◌++◌, length, drop, eqb, Result, Ok, Err}
 use Rattle.base.specs.declared.refusal.Refusal.{Refusal}
 use Rattle.base.specs.Refusal.{number_of}
 use Rattle.base.specs.Loop.{loop}
@@ -18,6 +18,11 @@ clear = fault 0 0
 
 unfoldable pub unless : Bool → Fault → Fault
 unless right f = cond right clear f
+
+-- the fault of the place i that a search finds, where its place 0 counts as place `from`; clear where it finds none
+abbrev pub fault_at : ℕ → ℕ → Option ℕ → Fault
+fault_at number from None = clear
+fault_at number from (Some i) = fault number (from + i)
 
 -- the first of two, and of f 0, f 1 .. f (count - 1)
 unfoldable pub or_else : Fault → Fault → Fault

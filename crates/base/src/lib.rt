@@ -6,10 +6,10 @@ mod section;
 
 ghost use Rattle.std.specs.Prelude.{◌≡◌};
 ghost use Rattle.base.specs.Word.{kind_of, load_of};
-ghost use Rattle.base.specs.Fault.{fault_of, packed};
+ghost use Rattle.base.specs.Fault.{fault, fault_of, packed};
 
-pub use refusal::{Reason, Refusal, unless};
-pub use section::{fill, put_if};
+pub use refusal::{Reason, Refusal, unless, unless_found};
+pub use section::ListWriter;
 
 // A word's kind is its top 4 bits.
 pub fn kind_of(w: u32) -> u32
@@ -35,10 +35,17 @@ pub fn shown<T: Drop>(answer: Result<T, Refusal>) -> (u32, usize)
     }
 }
 
-// The one number that crosses the C boundary.
+// The one number that crosses the C boundary, of any number and place.
+pub fn packed_fault(number: u32, place: usize) -> u64
+    ensures { result ≡ packed (fault number place) }
+{
+    u64::from(number) * 0x1_0000_0000 + place.min(0xffff_ffff) as u64
+}
+
+// The same of an answer.
 pub fn packed<T: Drop>(answer: Result<T, Refusal>) -> u64
     ensures { result ≡ packed (fault_of answer) }
 {
     let (number, place) = shown(answer);
-    u64::from(number) * 0x1_0000_0000 + place.min(0xffff_ffff) as u64
+    packed_fault(number, place)
 }

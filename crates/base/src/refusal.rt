@@ -1,6 +1,6 @@
 // The refusals: why, and where.
-ghost use Rattle.std.specs.Prelude.{◌≡◌, ◌<◌, ◌≤◌};
-ghost use Rattle.base.specs.Fault.{fault, fault_of, unless};
+ghost use Rattle.std.specs.Prelude.{◌≡◌, ◌+◌, ◌<◌, ◌≤◌, IfSome};
+ghost use Rattle.base.specs.Fault.{fault, fault_of, fault_at, unless};
 ghost use Rattle.base.specs.Refusal.{number_of};
 
 // Each refusal's word.
@@ -52,4 +52,18 @@ pub fn unless(right: bool, reason: Reason, place: usize) -> Result<(), Refusal>
         return Ok(());
     }
     Err(Refusal { reason, place })
+}
+
+// Refused where a search has found something, at the place that it has where the search's first place is `from`.
+pub fn unless_found(found: Option<usize>, reason: Reason, from: usize) -> Result<(), Refusal>
+    requires { IfSome found (λ i. from + i ≤ 0xffff_ffff_ffff_ffff) }
+    ensures { fault_of result ≡ fault_at (number_of reason) from found }
+{
+    match found {
+        None => Ok(()),
+        Some(i) => Err(Refusal {
+            reason,
+            place: from + i,
+        }),
+    }
 }

@@ -1,4 +1,4 @@
-// The Rust's small functions on bounds and starts, and document 01's range of angles.
+// The Rust's small functions on bounds and starts, with its names and its parameters `lower` and `upper`, and document 01's range of angles.
 #![tactic(auto)]
 
 ghost use Rattle.std.specs.Prelude.{◌≡◌, not, ◌||◌};

@@ -5,7 +5,7 @@ ghost use Rattle.acopf.specs.Columns.{column_lower, column_upper, column_start};
 
 use crate::sections::{bus_section, epigraph_section, generator_section};
 use acopf::{Case, generator_start, lower_bound, upper_bound, vm_lower, vm_upper};
-use base::fill;
+use base::ListWriter;
 use bounds::{clamp_start, finite_or};
 use network::Tables;
 
@@ -15,25 +15,28 @@ pub fn write_column_lower(case: &Case, out: &mut [f64])
         out.new ≡ all ++ drop (length all) out.old }
 {
     let tables = &case.tables;
-    let vm = fill(out, 0, tables.layout.buses, -1e19);
+    let mut columns = ListWriter { out, at: 0 };
+    columns.fill(tables.layout.buses, -1e19);
     // A closure, since no function of another crate can be passed by its name.
-    let pg = bus_section(tables, |bus| vm_lower(bus), out, vm);
-    let qg = generator_section(tables, |g| lower_bound(g.bounded, g.p_min), out, pg);
-    let epigraph = generator_section(tables, |g| lower_bound(g.bounded, g.q_min), out, qg);
-    fill(out, epigraph, case.tallies.epigraphs, -1e19);
+    bus_section(&mut columns, tables, |bus| vm_lower(bus));
+    generator_section(&mut columns, tables, |g| lower_bound(g.bounded, g.p_min));
+    generator_section(&mut columns, tables, |g| lower_bound(g.bounded, g.q_min));
+    columns.fill(case.tallies.epigraphs, -1e19);
 }
 
+// Apart from the lower bounds: a function for both would take three closures, and read less like its definition than the two do.
 pub fn write_column_upper(case: &Case, out: &mut [f64])
     requires { columns case.now.tables.words.now ≤ length out.old }
     ensures { let all = column_upper case.now.tables.words.now case.now.tables.numbers.now in
         out.new ≡ all ++ drop (length all) out.old }
 {
     let tables = &case.tables;
-    let vm = fill(out, 0, tables.layout.buses, 1e19);
-    let pg = bus_section(tables, |bus| vm_upper(bus), out, vm);
-    let qg = generator_section(tables, |g| upper_bound(g.bounded, g.p_max), out, pg);
-    let epigraph = generator_section(tables, |g| upper_bound(g.bounded, g.q_max), out, qg);
-    fill(out, epigraph, case.tallies.epigraphs, 1e19);
+    let mut columns = ListWriter { out, at: 0 };
+    columns.fill(tables.layout.buses, 1e19);
+    bus_section(&mut columns, tables, |bus| vm_upper(bus));
+    generator_section(&mut columns, tables, |g| upper_bound(g.bounded, g.p_max));
+    generator_section(&mut columns, tables, |g| upper_bound(g.bounded, g.q_max));
+    columns.fill(case.tallies.epigraphs, 1e19);
 }
 
 // The starts of vm, pg and qg are clamped to their bounds; those of va are not.
@@ -42,24 +45,22 @@ pub fn write_column_start(tables: &Tables, out: &mut [f64])
     ensures { let all = column_start tables.now.words.now tables.now.numbers.now in
         out.new ≡ all ++ drop (length all) out.old }
 {
-    let vm = bus_section(tables, |bus| finite_or(bus.va, 0.0), out, 0);
-    let pg = bus_section(
+    let mut columns = ListWriter { out, at: 0 };
+    bus_section(&mut columns, tables, |bus| finite_or(bus.va, 0.0));
+    bus_section(
+        &mut columns,
         tables,
         |bus| clamp_start(bus.vm, vm_lower(bus), vm_upper(bus)),
-        out,
-        vm,
     );
-    let qg = generator_section(
+    generator_section(
+        &mut columns,
         tables,
         |g| generator_start(g.bounded, g.pg, g.p_min, g.p_max),
-        out,
-        pg,
     );
-    let epigraph = generator_section(
+    generator_section(
+        &mut columns,
         tables,
         |g| generator_start(g.bounded, g.qg, g.q_min, g.q_max),
-        out,
-        qg,
     );
-    epigraph_section(tables, out, epigraph);
+    epigraph_section(&mut columns, tables);
 }

@@ -1,7 +1,7 @@
-// The sections of a column list. Each is written from the place `to` on, and its writer answers the place after it.
+// The sections of a column list.
 ghost use Rattle.std.specs.Prelude.{◌≡◌, ◌+◌, ◌≤◌, length, Float};
 ghost use Rattle.base.specs.Loop.{table, each, keep};
-ghost use Rattle.base.specs.internal.Section.{Wrote};
+ghost use Rattle.base.specs.internal.Section.{Added, Ends};
 ghost use Rattle.network.specs.declared.records.Bus.{Bus};
 ghost use Rattle.network.specs.declared.records.Generator.{Generator};
 ghost use Rattle.network.specs.Network.{curved, epigraphs_before};
@@ -9,59 +9,52 @@ ghost use Rattle.network.specs.internal.Records.{bus_record, generator_record};
 ghost use Rattle.acopf.specs.Columns.{epigraph_start};
 
 use acopf::epigraph_start;
+use base::ListWriter;
 use network::{Bus, Generator, Tables};
 
 // The value of each bus.
-pub(crate) fn bus_section<F: Fn(Bus) -> f64>(
-    tables: &Tables,
-    value: F,
-    out: &mut [f64],
-    to: usize,
-) -> usize
+pub(crate) fn bus_section<F: Fn(Bus) -> f64>(out: &mut ListWriter<f64>, tables: &Tables, value: F)
     requires callable { F.IsAlwaysCallable value }
-    requires room { to + tables.now.layout.buses ≤ length out.old }
+    requires room { out.old.at + tables.now.layout.buses ≤ length out.old.out.now }
     ensures section { let ws = tables.now.words.now in let xs = tables.now.numbers.now in
         (f : Bus → Float) → ((bus : Bus) (v : Float) → F.post value bus v → v ≡ f bus)
-        → Wrote out.old to (table tables.now.layout.buses (λ i. f (bus_record ws xs i))) out.new result }
-    ensures next { result ≡ to + tables.now.layout.buses }
+        → Added out.old (table tables.now.layout.buses (λ i. f (bus_record ws xs i))) out.new }
+    ensures next { Ends out.old tables.now.layout.buses out.new }
 {
     for i in 0..tables.layout.buses {
-        out[to + i] = value(tables.bus(i));
+        out.push(value(tables.bus(i)));
     }
-    to + tables.layout.buses
 }
 
-// The value of each generator.
+// The value of each generator. Buses are read by their number, generators one after the other, so that one function for both would need
+// a contract on what an iterator yields.
 pub(crate) fn generator_section<F: Fn(Generator) -> f64>(
+    out: &mut ListWriter<f64>,
     tables: &Tables,
     value: F,
-    out: &mut [f64],
-    to: usize,
-) -> usize
+)
     requires callable { F.IsAlwaysCallable value }
-    requires room { to + tables.now.layout.generators ≤ length out.old }
+    requires room { out.old.at + tables.now.layout.generators ≤ length out.old.out.now }
     ensures section { let ws = tables.now.words.now in let xs = tables.now.numbers.now in
         (f : Generator → Float) → ((generator : Generator) (v : Float) → F.post value generator v → v ≡ f generator)
-        → Wrote out.old to (table tables.now.layout.generators (λ g. f (generator_record ws xs g))) out.new result }
-    ensures next { result ≡ to + tables.now.layout.generators }
+        → Added out.old (table tables.now.layout.generators (λ g. f (generator_record ws xs g))) out.new }
+    ensures next { Ends out.old tables.now.layout.generators out.new }
 {
-    for (g, generator) in tables.generators() {
-        out[to + g] = value(generator);
+    for (_, generator) in tables.generators() {
+        out.push(value(generator));
     }
-    to + tables.layout.generators
 }
 
 // The start of each epigraph.
-pub(crate) fn epigraph_section(tables: &Tables, out: &mut [f64], to: usize) -> usize
-    requires { to + epigraphs_before tables.now.words.now tables.now.layout.generators ≤ length out.old }
+pub(crate) fn epigraph_section(out: &mut ListWriter<f64>, tables: &Tables)
+    requires { out.old.at + epigraphs_before tables.now.words.now tables.now.layout.generators ≤ length out.old.out.now }
     ensures { let ws = tables.now.words.now in let xs = tables.now.numbers.now in
         let starts = each tables.now.layout.generators (λ g. keep (curved ws g) (epigraph_start ws xs g)) in
-        Wrote out.old to starts out.new result }
+        Added out.old starts out.new }
 {
-    let mut next = to;
     for (_, generator) in tables.generators() {
-        let start = epigraph_start(tables.numbers, generator);
-        next = base::put_if(out, next, generator.curved, start);
+        if generator.curved() {
+            out.push(epigraph_start(tables.numbers, generator));
+        }
     }
-    next
 }

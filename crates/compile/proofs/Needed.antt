@@ -22,7 +22,7 @@ use Rattle.acopf.specs.Parts.{shared_parts}
 use Rattle.acopf.specs.Rows.{rows}
 use Rattle.acopf.specs.Factor.{constants64}
 use Rattle.acopf.proofs.Counts.{length_shared}
-use Rattle.acopf.proofs.Sizes.{objective_constants, objective_words, count_rows, count_of_constants, count_of_words}
+use Rattle.acopf.proofs.Sizes.{objective_words, count_rows, count_of_words}
 use Rattle.compile.specs.Compile.{Answer, accepted}
 
 module _ {ws : List ℕ} {xs : List Float} {l : Layout} (L : Laid ws xs l) where
@@ -48,10 +48,6 @@ module _ {ws : List ℕ} {xs : List Float} {l : Layout} (L : Laid ws xs l) where
     unfolding objective_words
     own_words = rw (L.words.is, T.of_epigraphs)
 
-    own_constants : cond (l.costs && not (eqb l.generators 0)) (2 * (l.generators - t.epigraphs)) 1 ≡ objective_constants ws
-    unfolding objective_constants
-    own_constants = rw (L.words.is, T.of_epigraphs)
-
     pub words_are : Clear (fault_tables ws xs) → {own : ℕ}
         → own ≡ cond (l.costs && not (eqb l.generators 0)) (bit (ltb 1 l.generators) + (t.epigraphs + 8 * (l.generators - t.epigraphs))) 1
         → 15 * l.buses + 2 * l.generators + 74 * l.branches + 2 * l.references + 4 * t.angles + 16 * t.rated + 8 * t.segments + 2 + own
@@ -60,18 +56,6 @@ module _ {ws : List ℕ} {xs : List Float} {l : Layout} (L : Laid ws xs l) where
         let o : own ≡ objective_words ws = e ∙ own_words in
         let all = count_of_words ws xs (words_clear ws xs right) in
         omega (arith, all, o, n_is, k_is, m_is, r_is, T.of_angles, T.of_rated, T.of_segments)
-
-    pub constants_are : Clear (fault_tables ws xs) → {own : ℕ}
-        → own ≡ cond (l.costs && not (eqb l.generators 0)) (2 * (l.generators - t.epigraphs)) 1
-        → 4 * l.buses + 16 * l.branches + 2 * t.rated + 2 * t.segments + own ≡ length (constants64 ws xs)
-    constants_are right {own} e =
-        let o : own ≡ objective_constants ws = e ∙ own_constants in
-        let all = count_of_constants ws xs (words_clear ws xs right) in
-        omega (arith, all, o, n_is, m_is, T.of_rated, T.of_segments)
-
-    pub columns_are : 2 * l.buses + 2 * l.generators + t.epigraphs ≡ columns ws
-    unfolding columns
-    columns_are = omega (arith, n_is, k_is, T.of_epigraphs)
 
     pub rows_are : 2 * l.buses + l.references + t.angles + 2 * t.rated + t.segments ≡ length (rows ws xs)
     rows_are = omega (arith, count_rows ws xs, n_is, r_is, T.of_angles, T.of_rated, T.of_segments)

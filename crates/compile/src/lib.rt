@@ -12,8 +12,8 @@ pub use boundary::{
 pub use decide::sized;
 pub use model::compile;
 
-// The results' lengths, the number of shared parts, and the objective constant.
-#[derive(Clone, Copy, Debug, PartialEq)]
+// The results' lengths, the number of shared parts, and the objective constant. By default those of no file.
+#[derive(Clone, Copy, Debug, Default, PartialEq)]
 pub struct Compiled {
     pub words: usize,
     pub constants: usize,

@@ -73,7 +73,7 @@ pub fn compile(
         row_upper.len(),
     ];
     let (answer, case) = decided(words, numbers, lengths)?;
-    write_model(&case, model_words, constants);
+    write_model(&case.tables, model_words, constants);
     write_columns(&case, column_lower, column_upper, start);
     write_rows(&case, row_lower, row_upper);
     Ok(answer)

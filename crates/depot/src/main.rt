@@ -23,7 +23,7 @@ fn read_full(mut from: impl Read + Drop, to: &mut [u8]) -> io::Result<usize>
 }
 
 fn main(rt: HostRuntime) -> io::Result<()> {
-    // One byte more than an input may have, so that a longer one is seen.
+    // Fixed lists: the program has no heap. One byte more than an input may have, so that a longer one is seen.
     let mut input = [0u8; 16385];
     let n = read_full(rt.stdin(), &mut input)?;
     // The most that is printed: 512 lines of nine bytes.

@@ -16,8 +16,8 @@ use Rattle.fdlibm.specs.Sqrt.{bit_by_bit, normalized, square_root}
 use Rattle.fdlibm.specs.Hypot.{scaled, middle, small, endless, ordered, hypotenuse}
 use Rattle.nl.specs.Expr.{load_for, words, words_of, constants, constants_of}
 use Rattle.nl.specs.File.{part_words, model_words, model_constants}
-use Rattle.nl.specs.Reader.{word_ok, arity, uses, read_head, read_expr, is_mark, read_parts, read_last, read_end}
-use Rattle.nl.specs.Finder.{find_after, find, row_words}
+use Rattle.nl.specs.Reader.{word_ok, arity, uses, read_head, read_expr, is_mark, read_parts, read_last, read_end, read_after, read_file}
+use Rattle.nl.specs.Finder.{find, row_words}
 use Rattle.network.specs.Word.{load_right}
 use Rattle.network.specs.Network.{kind_before, buses, generators, branches, references, generator_at, branch_at, needed, epigraphs_before, columns}
 use Rattle.bounds.specs.Bounds.{swing64, huge64, finite_or, clamp_start, bounds_right, angle_right, positive_violation}
@@ -204,7 +204,7 @@ cases =
     ∷ []
 
 all_right : T (all cases)
-unfolding loop table each tally unless or_else first is_finite absolute maximum kernel_sin kernel_cos rem_pio2 near_positive near_negative signed first_iteration second_iteration no_cancellation cosine sine sin_reduced cos_reduced bit_by_bit normalized square_root scaled middle small endless ordered hypotenuse load_for words words_of constants constants_of part_words model_words model_constants word_ok arity uses read_head read_expr is_mark read_parts read_last read_end find_after find row_words load_right kind_before buses generators branches references generator_at branch_at needed epigraphs_before columns finite_or clamp_start bounds_right angle_right positive_violation word_right fault_words fault_size blanks fault_count fault_blank fault_curve fault_shift fault_bounds fault_spread fault_rating fault_square branch_fault fault_branches fault_tables slope intercept evaluate coefficients_of flow_at flow_of flow vm_lower vm_upper pg_lower pg_upper qg_lower qg_upper va_start vm_start pg_start qg_start epigraph_start column_lower column_upper column_start branch_parts shared_parts balance_row p_balance_row q_balance_row thermal_rows segment_row segment_rows rows row_lower row_upper cost_term objective objective_constant model file_words first_non_finite constants64 fault_factor network_fault lengths fault_short compile_fault refused accepted compiled injected withdrawn p_injection q_injection cost own_objective flows outputs largest largest_where p_balance q_balance active_balance reactive_balance thermal_limits variable_bounds reference_angles angle_limits epigraphs objective_difference residuals primal_tolerances solved fault_output fault_tolerance fault_point point_fault fault_swing fault_derived fault_above fault_of check_fault checked add sub mul div neg of_bits to_bits to_unsigned of_int round lt le eq ne d all same_list compiles prints starts compile_refuses answers finds cases word_at bits_at formed input_words input_numbers hex_line hex_lines decimal_within refused_line network_text output
+unfolding loop table each tally unless or_else first is_finite absolute maximum kernel_sin kernel_cos rem_pio2 near_positive near_negative signed first_iteration second_iteration no_cancellation cosine sine sin_reduced cos_reduced bit_by_bit normalized square_root scaled middle small endless ordered hypotenuse load_for words words_of constants constants_of part_words model_words model_constants word_ok arity uses read_head read_expr is_mark read_parts read_last read_end read_after read_file find row_words load_right kind_before buses generators branches references generator_at branch_at needed epigraphs_before columns finite_or clamp_start bounds_right angle_right positive_violation word_right fault_words fault_size blanks fault_count fault_blank fault_curve fault_shift fault_bounds fault_spread fault_rating fault_square branch_fault fault_branches fault_tables slope intercept evaluate coefficients_of flow_at flow_of flow vm_lower vm_upper pg_lower pg_upper qg_lower qg_upper va_start vm_start pg_start qg_start epigraph_start column_lower column_upper column_start branch_parts shared_parts balance_row p_balance_row q_balance_row thermal_rows segment_row segment_rows rows row_lower row_upper cost_term objective objective_constant model file_words first_non_finite constants64 fault_factor network_fault lengths fault_short compile_fault refused accepted compiled injected withdrawn p_injection q_injection cost own_objective flows outputs largest largest_where p_balance q_balance active_balance reactive_balance thermal_limits variable_bounds reference_angles angle_limits epigraphs objective_difference residuals primal_tolerances solved fault_output fault_tolerance fault_point point_fault fault_swing fault_derived fault_above fault_of check_fault checked add sub mul div neg of_bits to_bits to_unsigned of_int round lt le eq ne d all same_list compiles prints starts compile_refuses answers finds cases word_at bits_at formed input_words input_numbers hex_line hex_lines decimal_within refused_line network_text output
 all_right = tt
 
 -- the constants that the definitions name by their bits are 0, 0.5, 1, 1024, 1e19 and 1e-6

@@ -21,9 +21,6 @@ use Rattle.compile.proofs.Counts.{counted, compiled_exactly, fronts}
 use Rattle.io.specs.Counts.{IsPrefixLen}
 use Rattle.depot_text.specs.Input.{formed, input_words, input_numbers}
 use Rattle.depot_text.specs.Text.{hex_line, hex_lines, decimal_within, input_line, refused_line, lent, network_text, output, text_after, text_length}
-use Rattle.base.specs.internal.Section.{Wrote}
-use Rattle.depot_text.proofs.Writes.{wrote_ends, wrote_length}
-use Rattle.base.proofs.Sections.{wrote_front}
 
 pub length_line : (w : ℕ) → length (hex_line w) ≡ 9
 unfolding hex_line
@@ -73,13 +70,13 @@ answered_short bytes before h =
     let e = lt-leb (length (output bytes)) (length before) h in
     (rw e, rw e, (omega arith, refl))
 
-pub answered_written : (bytes before after part : List ℕ) (count : ℕ) → part ≡ output bytes → length part ≤ length before → Wrote before 0 part after count → Answered bytes before after count
-answered_written bytes before after part count e h w =
+pub answered_written : (bytes before after part : List ℕ) (count : ℕ) → part ≡ output bytes → count ≡ length part → length part ≤ length before
+    → after ≡ part ++ drop count before → Answered bytes before after count
+answered_written bytes before after part count e n h w =
     let l : length (output bytes) ≤ length before = rw e at h in
     let t = le-leb (length (output bytes)) (length before) l in
-    let n = wrote_ends w in
-    let k : count ≤ length after = omega (arith, n, h, wrote_length w) in
-    (rw (t, ← e) n, rw (t, ← e) (wrote_front w h), (k, sym (length-take-le count after k)))
+    let k : count ≤ length after = omega (arith, n, ap length w, length-append part (drop count before)) in
+    (rw (t, ← e) n, rw (t, ← e) (rw n at w), (k, sym (length-take-le count after k)))
 
 -- ---- 4,608 bytes are always enough
 

@@ -11,9 +11,6 @@ use Rattle.base.specs.internal.Section.{Wrote}
 use Rattle.base.proofs.Sections.{wrote_none, wrote_one, then, wrote_front}
 
 module _ {A : Type 0} where
-  pub wrote_length : {l l' part : List A} {at k : ℕ} → Wrote l at part l' k → length l' ≡ length l
-  wrote_length {l} {l'} {part} {at} p = ap length p.holds ∙ length-sets l at part
-
   pub wrote_more : {l m part : List A} {at k : ℕ} (w : A) → Wrote l at part m k → Wrote l at (part ++ (w ∷ [])) (set m k w) (k + 1)
   wrote_more w p = then p (wrote_one _ _ w)
 

@@ -30,7 +30,8 @@ pub(crate) fn formed(bytes: &[u8]) -> bool
     bytes.len() == 8 + 4 * count_at(bytes, 0) + 8 * count_at(bytes, 4)
 }
 
-// Puts the words into the list's front, and answers how many there are.
+// Puts the words into the list's front, and answers how many there are: the program has no heap, so no Vec. Apart from `read_numbers`,
+// since a function for both would take a closure, with a bound and a clause that are longer than both bodies.
 pub(crate) fn read_words(bytes: &[u8], words: &mut [u32]) -> usize
     requires { (formed bytes.now ≡ true) × (4096 ≤ length words.old) }
     ensures { (take result words.new ≡ input_words bytes.now) × (result ≤ length words.new) }

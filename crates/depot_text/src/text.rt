@@ -1,19 +1,10 @@
-// Writers of the text: each answers the place after what it wrote.
+// What is put into the text, byte by byte: the definition names the bytes, and a `write!` would add an error that can't occur.
 ghost use Rattle.std.specs.Prelude.{◌≡◌, ◌+◌, ◌*◌, ◌%◌, ◌≤◌, ◌<◌, length};
 ghost use Rattle.depot_text.specs.Text.{hex_digit, hex_line, hex_lines, decimal, refused_line};
-ghost use Rattle.base.specs.internal.Section.{Wrote};
+ghost use Rattle.base.specs.internal.Section.{Added};
 ghost use Rattle.base.specs.Refusal.{number_of};
 
-use base::Refusal;
-
-pub(crate) fn put(text: &mut [u8], at: usize, part: &[u8]) -> usize
-    requires { at + length part.now ≤ length text.old }
-    ensures { Wrote text.old at part.now text.new result }
-{
-    let end = at + part.len();
-    text[at..end].copy_from_slice(part);
-    end
-}
+use base::{ListWriter, Refusal};
 
 // The last hexadecimal digit.
 fn hex_digit(n: u32) -> u8
@@ -35,33 +26,31 @@ fn hex_line(w: u32) -> [u8; 9]
 }
 
 // The words, a line each.
-pub(crate) fn put_hex_lines(text: &mut [u8], words: &[u32]) -> usize
-    requires { 9 * length words.now ≤ length text.old }
-    ensures { (Wrote text.old 0 (hex_lines words.now) text.new result) × (result ≡ 9 * length words.now) }
+pub(crate) fn put_hex_lines(text: &mut ListWriter<u8>, words: &[u32])
+    requires { text.old.at + 9 * length words.now ≤ length text.old.out.now }
+    ensures { Added text.old (hex_lines words.now) text.new }
 {
-    let mut at = 0;
     for word in words {
-        at = put(text, at, &hex_line(*word));
+        text.put(&hex_line(*word));
     }
-    at
 }
 
-fn put_decimal(text: &mut [u8], at: usize, n: u64) -> usize
-    requires { at + 20 ≤ length text.old }
-    ensures { (Wrote text.old at (decimal n) text.new result) × (result ≤ at + 20) }
+fn put_decimal(text: &mut ListWriter<u8>, n: u64)
+    requires { text.old.at + 20 ≤ length text.old.out.now }
+    ensures { (Added text.old (decimal n) text.new) × (text.new.at ≤ text.old.at + 20) }
 {
     let mut digits = [0u8; 20];
     let count = io::decimal(n, &mut digits);
-    put(text, at, &digits[..count])
+    text.put(&digits[..count]);
 }
 
-pub(crate) fn put_refused(text: &mut [u8], refusal: Refusal) -> usize
-    requires { 50 ≤ length text.old }
-    ensures { (Wrote text.old 0 (refused_line (number_of refusal.reason) refusal.place) text.new result) × (result ≤ 50) }
+pub(crate) fn put_refused(text: &mut ListWriter<u8>, refusal: Refusal)
+    requires { text.old.at + 50 ≤ length text.old.out.now }
+    ensures { Added text.old (refused_line (number_of refusal.reason) refusal.place) text.new }
 {
-    let word = put(text, 0, b"refused ");
-    let first = put_decimal(text, word, u64::from(refusal.reason.number()));
-    let space = put(text, first, b" ");
-    let second = put_decimal(text, space, refusal.place as u64);
-    put(text, second, b"\n")
+    text.put(b"refused ");
+    put_decimal(text, u64::from(refusal.reason.number()));
+    text.put(b" ");
+    put_decimal(text, refusal.place as u64);
+    text.put(b"\n");
 }

@@ -14,7 +14,7 @@ use Rattle.network.specs.declared.layout.Layout.{Layout}
 use Rattle.network.specs.Layout.{Laid}
 use Rattle.derived.specs.Outputs.{p_injection, q_injection, flows, p_from, q_from, p_to, q_to, outputs}
 use Rattle.derived.specs.internal.Agree.{PerBus}
-use Rattle.derived.specs.internal.Scratch.{FlowIs}
+use Rattle.derived.specs.internal.Scratch.{FlowIs, FlowsAre}
 
 -- "all p injections, all q injections, then all p_from, all q_from, all p_to, all q_to"
 pub record Placed (ws : List ℕ) (xs x : List Float) (fs : List (List Float)) : Type 0 where
@@ -71,6 +71,16 @@ module _ (ws : List ℕ) (xs x : List Float) {l : Layout} (list : List Float) (L
         q_from_is = rw (F, L.words.is) (P.q_from_is.its b nan q);
         p_to_is = rw (F, L.words.is) (P.p_to_is.its b nan q);
         q_to_is = rw (F, L.words.is) (P.q_to_is.its b nan q);
+      }
+
+  -- the flows of all
+  pub flows_are : FlowsAre (flows ws xs x) l.buses l.branches l.branches list
+  flows_are =
+      record {
+        p_from_is = λ b h. (flow_at b h).p_from_is;
+        q_from_is = λ b h. (flow_at b h).q_from_is;
+        p_to_is = λ b h. (flow_at b h).p_to_is;
+        q_to_is = λ b h. (flow_at b h).q_to_is;
       }
 
   -- the injections, in a copy of the front

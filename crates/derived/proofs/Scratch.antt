@@ -10,7 +10,7 @@ use native.Mathlib.Omega.{arith}
 use lib.Dec.{eqb}
 use lib.Ieee.{Float, nan}
 use lib.ListN.{length, get_or, set, take, length-set}
-use lib.Seq.{lt-length-set, get_or-set_same, get_or-set_other, take-suc, take-length}
+use lib.Seq.{lt-length-set, get_or-set_same, get_or-set_other, take-suc}
 use borrow.Author.Tests.{eqb-true, eqb-false}
 use borrow.Author.Count.{below_more}
 use Rattle.base.specs.Loop.{loop, table}
@@ -226,9 +226,9 @@ part_table f l start (suc n) h a =
     rw (e, take-suc l (start + n) nan (omega arith), a n (omega arith), part_table f l start n (omega arith) (λ i q. a i (omega arith)))
     (append_assoc (take start l) (table n f) (f n ∷ []))
 
--- the list is the outputs
-pub outputs_are : (ws : List ℕ) (xs x : List Float) (n m : ℕ) (l : List Float) → n ≡ buses ws → m ≡ branches ws → length l ≡ 2 * n + 4 * m
-    → PerBus n n (p_injection ws xs x) (q_injection ws xs x) l → FlowsAre (flows ws xs x) n m m l → l ≡ outputs ws xs x (flows ws xs x)
+-- the list's front is the outputs
+pub outputs_are : (ws : List ℕ) (xs x : List Float) (n m : ℕ) (l : List Float) → n ≡ buses ws → m ≡ branches ws → 2 * n + 4 * m ≤ length l
+    → PerBus n n (p_injection ws xs x) (q_injection ws xs x) l → FlowsAre (flows ws xs x) n m m l → take (2 * n + 4 * m) l ≡ outputs ws xs x (flows ws xs x)
 unfolding outputs
 outputs_are ws xs x n m l en em h P F =
     let fs = flows ws xs x in
@@ -242,10 +242,10 @@ outputs_are ws xs x n m l en em h P F =
     let e2 : n + n ≡ 2 * n = omega arith in
     let e4 : 2 * n + m + m ≡ 2 * n + 2 * m = omega arith in
     let e5 : 2 * n + 2 * m + m ≡ 2 * n + 3 * m = omega arith in
-    let e6 : 2 * n + 3 * m + m ≡ length l = omega (arith, h) in
+    let e6 : 2 * n + 3 * m + m ≡ 2 * n + 4 * m = omega arith in
     let u1 : take n l ≡ table n (p_injection ws xs x) = rw e1 at t1 in
     let u2 : take (2 * n) l ≡ take n l ++ table n (q_injection ws xs x) = rw e2 at t2 in
     let u4 : take (2 * n + 2 * m) l ≡ take (2 * n + m) l ++ table m (q_from fs) = rw e4 at t4 in
     let u5 : take (2 * n + 3 * m) l ≡ take (2 * n + 2 * m) l ++ table m (p_to fs) = rw e5 at t5 in
-    let u6 : take (length l) l ≡ take (2 * n + 3 * m) l ++ table m (q_to fs) = rw e6 at t6 in
-    rw (← en, ← em) (sym (take-length l) ∙ u6 ∙ rw (u5, u4, t3, u2, u1))
+    let u6 : take (2 * n + 4 * m) l ≡ take (2 * n + 3 * m) l ++ table m (q_to fs) = rw e6 at t6 in
+    rw (← en, ← em) (u6 ∙ rw (u5, u4, t3, u2, u1))

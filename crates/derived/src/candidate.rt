@@ -29,9 +29,7 @@ impl<'a> Candidate<'a> {
         ensures tables { IfOk result (λ candidate. candidate.tables ≡ case.now.tables) }
         ensures point { IfOk result (λ candidate. candidate.point.now ≡ point.now) }
     {
-        let layout = case.tables.layout;
-        let columns = 2 * layout.buses + 2 * layout.generators + case.tallies.epigraphs;
-        point_fault(point, columns)?;
+        point_fault(point, case.columns())?;
         Ok(Candidate {
             tables: case.tables,
             point,

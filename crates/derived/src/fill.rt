@@ -1,14 +1,68 @@
 // What is worked out from a candidate: its outputs, and from them the flows and balances; refusal 15.
-ghost use Rattle.std.specs.Prelude.{◌≡◌, ◌+◌, ◌*◌, length};
-ghost use Rattle.derived.specs.Outputs.{flows, outputs};
+ghost use Rattle.std.specs.Prelude.{◌≡◌, ◌+◌, ◌*◌, ◌≤◌, ◌++◌, [], ◌∷◌, List, ℕ, Float, length};
+ghost use Rattle.base.specs.Fault.{fault_of};
+ghost use Rattle.base.specs.Refusal.{DERIVED};
+ghost use Rattle.lists.specs.Finite.{first_non_finite};
+ghost use Rattle.derived.specs.Outputs.{flows, outputs, withdrawn, p_from, q_from, p_to, q_to};
+ghost use Rattle.derived.specs.internal.Agree.{PerBus};
+ghost use Rattle.derived.specs.internal.Scratch.{FlowsAre, Filled};
 
 use crate::bus::{injections, voltages};
 use crate::candidate::Candidate;
-use crate::flow::flows;
+use crate::flow::{flows, flows_at};
 use base::{Reason, Refusal};
 use lists::{copy_front, first_non_finite};
-use network::MOST_BUSES;
+use network::{MOST_BUSES, Tables};
 use pi_model::{Complex, Flows};
+
+// How many outputs a point of the network has.
+pub fn output_count(tables: &Tables) -> usize
+    ensures { result ≡ 2 * tables.now.layout.buses + 4 * tables.now.layout.branches }
+{
+    2 * tables.layout.buses + 4 * tables.layout.branches
+}
+
+// 15, of outputs, then of the two objectives.
+pub fn derived_fault(outputs: &[f64], solver: f64, own: f64) -> Result<(), Refusal>
+    requires { length outputs.now ≤ 2560 }
+    ensures { fault_of result ≡ first_non_finite DERIVED (outputs.now ++ (solver ∷ own ∷ [])) }
+{
+    first_non_finite(outputs, Reason::Derived, 0)?;
+    first_non_finite(&[solver, own], Reason::Derived, outputs.len())
+}
+
+// Takes each branch's flows from its buses, at its from end, then at its to end: all p, then all q. The flows stand behind 2 n numbers.
+pub fn balances(tables: &Tables, outputs: &[f64], list: &mut [f64])
+    requires { let layout = tables.now.layout in
+        (2 * layout.buses + 4 * layout.branches ≤ length outputs.now) × (2 * layout.buses ≤ length list.old) }
+    ensures { let ws = tables.now.words.now in let n = tables.now.layout.buses in let m = tables.now.layout.branches in
+        ((fs : List (List Float)) (p q : ℕ → Float) → FlowsAre fs n m m outputs.now → PerBus n n p q list.old
+        → PerBus n n (λ i. withdrawn ws i (p_from fs) (p_to fs) (p i)) (λ i. withdrawn ws i (q_from fs) (q_to fs) (q i)) list.new) }
+{
+    let n = tables.layout.buses;
+    for b in 0..tables.layout.branches {
+        let branch = tables.branch(b);
+        let f = branch.from;
+        let t = branch.to;
+        let flow = flows_at(tables, outputs, b);
+        list[f] -= flow.p_from;
+        list[t] -= flow.p_to;
+        list[n + f] -= flow.q_from;
+        list[n + t] -= flow.q_to;
+    }
+}
+
+// Fills the list's front with the outputs. The voltages are in an array of their own.
+pub fn fill_outputs(candidate: &Candidate, list: &mut [f64])
+    requires { let layout = candidate.now.tables.layout in 2 * layout.buses + 4 * layout.branches ≤ length list.old }
+    ensures { let tables = candidate.now.tables in
+        Filled tables.words.now tables.numbers.now candidate.now.point.now tables.layout list.new }
+{
+    let mut voltage = [Complex::new(0.0, 0.0); MOST_BUSES];
+    voltages(candidate, &mut voltage);
+    flows(candidate, &voltage, list);
+    injections(candidate, list);
+}
 
 // The list is all p injections, all q injections, then all p_from, q_from, p_to and q_to.
 #[derive(Clone, Copy)]
@@ -29,18 +83,15 @@ impl<'a, 'b> Derived<'a, 'b> {
     ghost use Rattle.derived.specs.internal.Agree.{PerBus};
     ghost use Rattle.derived.specs.internal.Scratch.{FlowIs};
 
-    // The outputs fill the list. The voltages are in an array of their own.
-    pub fn new(candidate: &Candidate<'a>, list: &'b mut [f64]) -> Derived<'a, 'b>
-        requires { let layout = candidate.now.tables.layout in length list.now ≡ 2 * layout.buses + 4 * layout.branches }
+    // The outputs fill the front of the list that is lent.
+    pub fn new(candidate: &Candidate<'a>, lent: &'b mut [f64]) -> Derived<'a, 'b>
+        requires { let layout = candidate.now.tables.layout in 2 * layout.buses + 4 * layout.branches ≤ length lent.now }
         ensures { result.candidate ≡ candidate.now }
     {
-        let mut voltage = [Complex::new(0.0, 0.0); MOST_BUSES];
-        voltages(candidate, &mut voltage);
-        flows(candidate, &voltage, list);
-        injections(candidate, list);
+        fill_outputs(candidate, lent);
         Derived {
             candidate: *candidate,
-            list,
+            list: &lent[..output_count(&candidate.tables)],
         }
     }
 
@@ -50,22 +101,14 @@ impl<'a, 'b> Derived<'a, 'b> {
         ensures { let tables = self.now.candidate.tables in
             FlowIs (flows tables.words.now tables.numbers.now self.now.candidate.point.now) b result }
     {
-        let first = 2 * self.candidate.tables.layout.buses;
-        let m = self.candidate.tables.layout.branches;
-        Flows {
-            p_from: self.list[first + b],
-            q_from: self.list[first + m + b],
-            p_to: self.list[first + 2 * m + b],
-            q_to: self.list[first + 3 * m + b],
-        }
+        flows_at(&self.candidate.tables, self.list, b)
     }
 
     // 15, of the outputs, then of the two objectives.
     pub fn fault(&self, solver: f64, own: f64) -> Result<(), Refusal>
         ensures { fault_of result ≡ first_non_finite DERIVED (self.now.list.now ++ (solver ∷ own ∷ [])) }
     {
-        first_non_finite(self.list, Reason::Derived, 0)?;
-        first_non_finite(&[solver, own], Reason::Derived, self.list.len())
+        derived_fault(self.list, solver, own)
     }
 
     // Each bus's injections, less the flows of its branches, at their from end, then at their to end: all p, then all q.
@@ -76,18 +119,8 @@ impl<'a, 'b> Derived<'a, 'b> {
             PerBus n n (λ i. withdrawn ws i (p_from fs) (p_to fs) (p_injection ws xs x i))
             (λ i. withdrawn ws i (q_from fs) (q_to fs) (q_injection ws xs x i)) list.new }
     {
-        let tables = &self.candidate.tables;
-        let n = tables.layout.buses;
+        let n = self.candidate.tables.layout.buses;
         copy_front(&self.list[..2 * n], list);
-        for b in 0..tables.layout.branches {
-            let branch = tables.branch(b);
-            let flows = self.flows(b);
-            let f = branch.from;
-            let t = branch.to;
-            list[f] -= flows.p_from;
-            list[t] -= flows.p_to;
-            list[n + f] -= flows.q_from;
-            list[n + t] -= flows.q_to;
-        }
+        balances(&self.candidate.tables, self.list, list);
     }
 }

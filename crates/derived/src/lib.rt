@@ -7,10 +7,11 @@ mod fill;
 mod flow;
 
 pub use candidate::Candidate;
-pub use fill::Derived;
+pub use fill::{Derived, balances, derived_fault, fill_outputs, output_count};
 use network::{MOST_BRANCHES, MOST_BUSES};
 
-// Two numbers for each bus, and four for each branch.
+// Two numbers for each bus, as balances have.
 pub const MOST_PER_BUS: usize = 2 * MOST_BUSES;
 
+// The most that `output_count` answers.
 pub const MOST_OUTPUTS: usize = 2 * MOST_BUSES + 4 * MOST_BRANCHES;

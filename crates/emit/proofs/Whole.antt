@@ -33,7 +33,8 @@ use Rattle.emit.specs.internal.Objective.{sum_head, cost_count, objective_tokens
 use Rattle.emit.specs.internal.Whole.{bus_rows, branch_rows, objective_and_end, row_tokens}
 use Rattle.emit.proofs.Few.{all_most}
 use Rattle.base.proofs.Sections.{then}
-use Rattle.writer.proofs.Tokens.{map_append, numbers_append, words_append, length_words, parts_append, parts_each, parts_table, each_through, each_same, each_zero, table_each, list_terms, list_each, part_words_are, part_numbers_are, words_are, numbers_are, wrote_length}
+use Rattle.base.proofs.Sections.{wrote_length}
+use Rattle.writer.proofs.Tokens.{map_append, numbers_append, words_append, length_words, parts_append, parts_each, parts_table, each_through, each_same, each_zero, table_each, list_terms, list_each, part_words_are, part_numbers_are, words_are, numbers_are}
 
 shared_are : (ws : List ℕ) (xs : List Float) → part_tokens 10 (shared_parts ws xs) ≡ shared_tokens ws xs (buses ws) (branches ws)
 unfolding shared_parts shared_tokens

@@ -1,58 +1,56 @@
 // The rows of curve segments.
-ghost use Rattle.std.specs.Prelude.{[], ◌∷◌, ℕ, ◌+◌, ◌*◌, ◌<◌, ◌≤◌, length};
+ghost use Rattle.std.specs.Prelude.{[], ◌∷◌, ◌-◌, ◌<◌};
 ghost use Rattle.base.specs.Loop.{each};
 ghost use Rattle.writer.specs.internal.Tokens.{Written, Room, part_tokens};
-ghost use Rattle.network.specs.Limits.{most_points};
 ghost use Rattle.emit.specs.internal.Rows.{segment_of, segment_tokens, curve_tokens};
 
-use acopf::{counted, row_segments};
 use network::Tables;
 use nl::{Kind, Mark};
-use piecewise_cost::{intercept_of, slope_of};
+use piecewise_cost::{Curve, Segment};
 use writer::{ModelWriter, WordKind};
 
+// The two columns that the rows of a curve name.
+#[derive(Clone, Copy)]
+struct Columns {
+    epigraph: usize,
+    pg: usize,
+    ghost few: { (epigraph < 4096) × (pg < 4096) },
+}
+
 // The epigraph column, less slope times pg plus intercept.
-fn segment_row(writer: &mut ModelWriter, epigraph: usize, pg: usize, slope: f64, intercept: f64)
-    requires columns { (epigraph < 4096) × (pg < 4096) }
-    requires room { Room writer.old (part_tokens 11 (segment_of epigraph pg slope intercept ∷ [])) }
-    ensures { Written writer.old (part_tokens 11 (segment_of epigraph pg slope intercept ∷ [])) writer.new }
+fn segment_row(writer: &mut ModelWriter, columns: &Columns, segment: Segment)
+    requires { Room writer.old
+        (part_tokens 11 (segment_of columns.now.epigraph columns.now.pg segment.slope segment.intercept ∷ [])) }
+    ensures { Written writer.old
+        (part_tokens 11 (segment_of columns.now.epigraph columns.now.pg segment.slope segment.intercept ∷ []))
+        writer.new }
 {
     let constant = writer.constant;
     writer.put(
         &[
             Mark::Row.word(writer.part),
             Kind::Subtract.word(0),
-            Kind::Column.word(epigraph),
+            Kind::Column.word(columns.epigraph),
             Kind::Add.word(0),
             Kind::Multiply.word(0),
             Kind::Constant.word(constant),
-            Kind::Column.word(pg),
+            Kind::Column.word(columns.pg),
             Kind::Constant.word(constant + 1),
         ],
-        &[slope, intercept],
+        &[segment.slope, segment.intercept],
         1,
     );
 }
 
-// Of the first `count` segments of a curve whose numbers start at `at`.
-fn segment_rows(
-    writer: &mut ModelWriter,
-    numbers: &[f64],
-    at: usize,
-    count: usize,
-    epigraph: usize,
-    pg: usize,
-)
-    requires curve { (s : ℕ) → s < count → at + 2 * s + 4 ≤ length numbers.now }
-    requires few { count ≤ most_points }
-    requires columns { (epigraph < 4096) × (pg < 4096) }
-    requires room { Room writer.old (each count (segment_tokens numbers.now at epigraph pg)) }
-    ensures { Written writer.old (each count (segment_tokens numbers.now at epigraph pg)) writer.new }
+// Of all segments of a curve.
+fn segment_rows(writer: &mut ModelWriter, curve: &Curve, columns: &Columns)
+    requires { let rows = segment_tokens curve.now.numbers.now curve.now.at columns.now.epigraph columns.now.pg in
+        Room writer.old (each (curve.now.points - 1) rows) }
+    ensures { let rows = segment_tokens curve.now.numbers.now curve.now.at columns.now.epigraph columns.now.pg in
+        Written writer.old (each (curve.now.points - 1) rows) writer.new }
 {
-    for s in 0..count {
-        let slope = slope_of(numbers, at, s);
-        let intercept = intercept_of(numbers, at, s);
-        segment_row(writer, epigraph, pg, slope, intercept);
+    for s in 0..curve.segments() {
+        segment_row(writer, columns, curve.segment(s));
     }
 }
 
@@ -64,13 +62,14 @@ pub(crate) fn curve_rows(writer: &mut ModelWriter, tables: &Tables)
         writer.new }
 {
     let n = tables.layout.buses;
-    let k = tables.layout.generators;
-    let mut epigraphs = 0usize;
     for (g, generator) in tables.generators() {
-        let count = row_segments(generator.curved, generator.points);
-        let epigraph = 2 * n + 2 * k + epigraphs;
-        let pg = 2 * n + g;
-        segment_rows(writer, tables.numbers, generator.curve, count, epigraph, pg);
-        epigraphs = counted(epigraphs, generator.curved);
+        if let Some(epigraph) = generator.epigraph {
+            let curve = Curve::new(tables.numbers, &generator);
+            let columns = Columns {
+                epigraph,
+                pg: 2 * n + g,
+            };
+            segment_rows(writer, &curve, &columns);
+        }
     }
 }

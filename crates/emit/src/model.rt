@@ -8,7 +8,6 @@ ghost use Rattle.emit.specs.internal.Whole.{bus_rows, branch_rows, objective_and
 use crate::curves::curve_rows;
 use crate::objective::objective;
 use crate::rows::{angle_rows, reference_rows, thermal_rows};
-use acopf::Case;
 use balance::balances;
 use network::Tables;
 use nl::Mark;
@@ -54,16 +53,15 @@ fn after_parts(writer: &mut ModelWriter, tables: &Tables)
     objective_and_end(writer, tables);
 }
 
-// Writes the model file of a network that is not refused, into lists that are long enough.
-pub fn write_model(case: &Case, model_words: &mut [u32], constants: &mut [f64])
-    requires words { length (file_words case.now.tables.words.now case.now.tables.numbers.now) ≤ length model_words.old }
-    requires constants { length (constants64 case.now.tables.words.now case.now.tables.numbers.now) ≤ length constants.old }
-    ensures words { let file = file_words case.now.tables.words.now case.now.tables.numbers.now in
+// Writes the model file of a network that 1 to 3 do not refuse, into lists that have room for it.
+pub fn write_model(tables: &Tables, model_words: &mut [u32], constants: &mut [f64])
+    requires words { length (file_words tables.now.words.now tables.now.numbers.now) ≤ length model_words.old }
+    requires constants { length (constants64 tables.now.words.now tables.now.numbers.now) ≤ length constants.old }
+    ensures words { let file = file_words tables.now.words.now tables.now.numbers.now in
         model_words.new ≡ file ++ drop (length file) model_words.old }
-    ensures constants { let numbers = constants64 case.now.tables.words.now case.now.tables.numbers.now in
+    ensures constants { let numbers = constants64 tables.now.words.now tables.now.numbers.now in
         constants.new ≡ numbers ++ drop (length numbers) constants.old }
 {
-    let tables = &case.tables;
     let mut writer = ModelWriter {
         words: model_words,
         constants,

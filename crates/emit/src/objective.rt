@@ -1,13 +1,11 @@
 // The objective: under header 1 a term for each generator, its epigraph column or its quadratic cost, else the constant 0.
-ghost use Rattle.std.specs.Prelude.{cond, [], ◌∷◌, ◌<◌, ◌≤◌};
+ghost use Rattle.std.specs.Prelude.{[], ◌∷◌, ◌<◌, ◌≤◌, IfSome};
 ghost use Rattle.base.specs.Loop.{each};
 ghost use Rattle.base.specs.Word.{word};
 ghost use Rattle.float.specs.Number.{◌⊗◌, half64};
-ghost use Rattle.nl.specs.Expr.{column};
 ghost use Rattle.writer.specs.internal.Tokens.{fixed, Written, Room, list_tokens};
-ghost use Rattle.emit.specs.internal.Objective.{cost_of, cost_tokens, sum_head, cost_count, objective_tokens};
+ghost use Rattle.emit.specs.internal.Objective.{cost_of, term_of, cost_tokens, sum_head, cost_count, objective_tokens};
 
-use acopf::counted;
 use network::{Generator, Tables};
 use nl::{Kind, Mark};
 use writer::{ModelWriter, WordKind};
@@ -55,19 +53,17 @@ fn quadratic_cost(writer: &mut ModelWriter, pg: usize, half: f64, linear: f64)
 }
 
 // The generator's epigraph column, or its quadratic cost without the constant.
-fn cost_term(writer: &mut ModelWriter, epigraph: usize, pg: usize, generator: &Generator)
-    requires columns { (epigraph < 4096) × (pg < 4096) }
+fn cost_term(writer: &mut ModelWriter, pg: usize, generator: &Generator)
+    requires pg { pg < 4096 }
+    requires epigraph { IfSome generator.now.epigraph (λ epigraph. epigraph < 4096) }
     requires room { let g = generator.now in
-        Room writer.old (list_tokens (cond g.curved (column epigraph) (cost_of pg (half64 ⊗ g.cost_q) g.cost_c) ∷ [])) }
+        Room writer.old (list_tokens (term_of g.epigraph (cost_of pg (half64 ⊗ g.cost_q) g.cost_c) ∷ [])) }
     ensures { let g = generator.now in
-        Written writer.old
-        (list_tokens (cond g.curved (column epigraph) (cost_of pg (half64 ⊗ g.cost_q) g.cost_c) ∷ []))
-        writer.new }
+        Written writer.old (list_tokens (term_of g.epigraph (cost_of pg (half64 ⊗ g.cost_q) g.cost_c) ∷ [])) writer.new }
 {
-    if generator.curved {
-        writer.put(&[Kind::Column.word(epigraph)], &[], 0);
-    } else {
-        quadratic_cost(writer, pg, 0.5 * generator.cost_q, generator.cost_c);
+    match generator.epigraph {
+        Some(epigraph) => writer.put(&[Kind::Column.word(epigraph)], &[], 0),
+        None => quadratic_cost(writer, pg, 0.5 * generator.cost_q, generator.cost_c),
     }
 }
 
@@ -79,11 +75,8 @@ fn cost_terms(writer: &mut ModelWriter, tables: &Tables)
         writer.new }
 {
     let n = tables.layout.buses;
-    let k = tables.layout.generators;
-    let mut epigraphs = 0usize;
     for (g, generator) in tables.generators() {
-        cost_term(writer, 2 * n + 2 * k + epigraphs, 2 * n + g, &generator);
-        epigraphs = counted(epigraphs, generator.curved);
+        cost_term(writer, 2 * n + g, &generator);
     }
 }
 

@@ -6,7 +6,7 @@ ghost use Rattle.acopf.specs.Build.{subtract};
 ghost use Rattle.writer.specs.internal.Tokens.{Written, Room, part_tokens};
 ghost use Rattle.emit.specs.internal.Rows.{reference_tokens, angle_tokens, thermal_of, thermal_pair, thermal_tokens};
 
-use network::{Tables, branch_angled, branch_from, branch_to};
+use network::Tables;
 use nl::{Kind, Mark};
 use writer::{ModelWriter, WordKind};
 
@@ -57,9 +57,9 @@ pub(crate) fn angle_rows(writer: &mut ModelWriter, tables: &Tables)
         writer.new }
 {
     for b in 0..tables.layout.branches {
-        let w = tables.words[tables.layout.branch_words + b];
-        if branch_angled(w) {
-            angle_row(writer, branch_from(w), branch_to(w));
+        let branch = tables.branch(b);
+        if branch.angled {
+            angle_row(writer, branch.from, branch.to);
         }
     }
 }
@@ -105,7 +105,7 @@ pub(crate) fn thermal_rows(writer: &mut ModelWriter, tables: &Tables)
 {
     for b in 0..tables.layout.branches {
         let branch = tables.branch(b);
-        if branch.rated {
+        if branch.rated() {
             thermal_pair(
                 writer,
                 tables.layout.buses + 8 * b,

@@ -9,29 +9,21 @@ use lib.ListN.{length, get_or, get_or-map}
 use lib.Dec.{eqb}
 use lib.Ieee.{Float, nan, binary64, to_bits, of_bits}
 use borrow.Author.Tests.{lt-ltb, le-ltb, ne_eqb}
+use Rattle.std.proofs.Math.Bool.{and-true, and_assoc}
+use Rattle.std.proofs.lemmas.List.{get_or_default}
 use Rattle.base.specs.Word.{kind_of, load_of}
 use Rattle.float.specs.Number.{zero64}
 use Rattle.nl.specs.Expr.{constant, column, shared}
-use Rattle.nl.specs.File.{depth_limit}
 use Rattle.nl.specs.Reader.{arity}
 use Rattle.expression.specs.Value.{step, fold, gathered, applied, argument_ok, value, values_of, in_range, in_range_of, patterns}
-use Rattle.model_reading.specs.Parse.{Parsed, ParsedTerms, parse_many, leaf_of, headed, parse, part}
+use Rattle.model_reading.specs.Parse.{Parsed, ParsedTerms, parse_many, leaf_of, headed, parse}
 use Rattle.expression.specs.internal.Scan.{Worth, evaluated}
-use Rattle.expression.proofs.Lists.{any_default}
 
 -- a constant by way of its pattern
 pub by_pattern : (xs : List Float) (i : ℕ) → i < length xs → of_bits binary64 (to_bits binary64 (get_or xs i nan)) ≡ get_or xs i nan → get_or xs i nan ≡ of_bits binary64 (get_or (patterns xs) i 0)
 unfolding to_bits of_bits
 by_pattern xs i l h =
-    sym (ap (of_bits binary64) (get_or-map (to_bits binary64) xs i zero64 ∙ ap (to_bits binary64) (any_default xs i zero64 nan l)) ∙ h)
-
-pub and_true : (a : Bool) → (a && true) ≡ a
-and_true true = refl
-and_true false = refl
-
-and_assoc : (a b c : Bool) → ((a && b) && c) ≡ (a && (b && c))
-and_assoc true b c = refl
-and_assoc false b c = refl
+    sym (ap (of_bits binary64) (get_or-map (to_bits binary64) xs i zero64 ∙ ap (to_bits binary64) (get_or_default xs i zero64 nan l)) ∙ h)
 
 -- what the operands give, where i of them are gathered already
 pub resumed : ℕ → ℕ → Float → List Float → Float
@@ -100,10 +92,4 @@ module _ (ws cs : List ℕ) (point values : List Float) where
   unfolding whole values_of in_range_of
   ends f kind n i here total ok x h w =
       let z : n - i ≡ 0 = omega arith in
-      sym (w ∙ rw (z, resumed_end, and_true))
-
-  -- ---- a part
-
-  pub part_inside : (at : ℕ) (e : Worth) → at < length ws → e ≡ evaluated point values (parse ws cs depth_limit (at + 1)) → e ≡ evaluated point values (part ws cs at)
-  unfolding part
-  part_inside at e h p = rw (lt-ltb at (length ws) h) p
+      sym (w ∙ rw (z, resumed_end, and-true))

@@ -10,22 +10,25 @@ use lib.ListN.{length, get_or}
 use lib.Dec.{eqb, leb, ltb}
 use lib.Ieee.{Float, nan}
 use borrow.Author.Tests.{lt-ltb, le-ltb, eq-eqb, ne_eqb, ltb-true, ltb-false, leb-true}
+use Rattle.std.proofs.Math.Bool.{and-true}
+use Rattle.std.proofs.lemmas.List.{get_or_default}
 use Rattle.std.specs.Prelude.{Option, Some, None, MatchOption, Result, Ok, Err, IsErrAnd}
 use Rattle.std.specs.Option.{ok_or}
 use Rattle.base.specs.Word.{kind_of, load_of}
 use Rattle.float.specs.Number.{◌⊗◌, zero64}
+use Rattle.nl.specs.declared.kind.Kind.{Kind}
 use Rattle.nl.specs.declared.reader.Cursor.{Cursor}
 use Rattle.nl.specs.declared.reader.Head.{Head}
 use Rattle.nl.specs.declared.reader.WrongWord.{WrongWord}
-use Rattle.nl.specs.Reader.{Read, head, word_ok, arity, uses, many, read_head, read_expr}
+use Rattle.nl.specs.Reader.{Read, head, after, word_ok, arity, uses, many, read_head, read_expr, is_mark}
+use Rattle.nl.proofs.PartSteps.{marked}
 use Rattle.nl.proofs.Words.{leaf_arity}
-use Rattle.nl.proofs.Steps.{same_place, spelled, head_open, head_inside, one_more_is, many_none}
+use Rattle.nl.proofs.Steps.{same_place, spelled, head_open, head_inside, one_more_is, many_none, many_more}
 use Rattle.expression.specs.declared.Scanned.{Scanned}
 use Rattle.expression.specs.Value.{step, applied, argument_ok, value, patterns}
 use Rattle.model_reading.specs.Parse.{leaf_of, parse_many, parse}
 use Rattle.expression.specs.internal.Scan.{evaluated, worth, IsNumber, Finds, LeafScans, Reads, Scans}
-use Rattle.expression.proofs.Lists.{any_default}
-use Rattle.expression.proofs.Operands.{and_true, by_pattern, a_leaf, whole, begins, goes_on, ends}
+use Rattle.expression.proofs.Operands.{by_pattern, a_leaf, whole, begins, goes_on, ends}
 
 -- a word that may stand and has no operands is a constant's, a column's or a shared part's
 no_operands : (constants columns named k kind load : ℕ) → word_ok constants columns named k kind load ≡ true → arity kind load ≡ 0 → kind < 3
@@ -65,16 +68,16 @@ module _ (ws : List ℕ) (xs point values : List Float) where
       → (word_ok (length xs) (length point) (length values) k (kind_of (get_or ws at 0)) (load_of (get_or ws at 0)) ≡ true)
       × (h.operands ≡ arity (kind_of (get_or ws at 0)) (load_of (get_or ws at 0)))
   unfolding read_head
-  open_head at k h p = go (ltb at (length ws)) (word_ok (length xs) (length point) (length values) k (kind_of (get_or ws at 0)) (load_of (get_or ws at 0))) _ _ p
+  open_head at k h p = go (ltb at (length ws)) (word_ok (length xs) (length point) (length values) k (kind_of (get_or ws at 0)) (load_of (get_or ws at 0))) _ _ _ p
     where
       operands_of : Option Head → ℕ
       operands_of (Some a) = a.operands
       operands_of None = 0
 
-      go : (t u : Bool) (n b : ℕ) → Some h ≡ cond t (cond u (head n b) None) None → (u ≡ true) × (h.operands ≡ n)
-      go true true n b r = (refl, ap operands_of r)
-      go true false n b r = absurd (cc)
-      go false u n b r = absurd (cc)
+      go : (t u : Bool) (kind : Kind) (n b : ℕ) → Some h ≡ cond t (cond u (head kind n b) None) None → (u ≡ true) × (h.operands ≡ n)
+      go true true kind n b r = (refl, ap operands_of r)
+      go true false kind n b r = absurd (cc)
+      go false u kind n b r = absurd (cc)
 
   -- ---- constants, columns and shared parts
 
@@ -109,7 +112,7 @@ module _ (ws : List ℕ) (xs point values : List Float) where
         let o : kind ≡ 0 → ⊥ = λ y. omega arith in
         λ d. rw p.is (leaf_reads d at k kind load k (get_or point load nan) h e f (omega arith)
         (rw (ne_eqb kind 0 o, eq-eqb kind 1 z, lt-ltb load (length point) p.within)) (rw (ne_eqb kind 0 o, add-zero k))
-        (rw (ne_eqb kind 0 o, eq-eqb kind 1 z) (any_default point load nan zero64 p.within)))
+        (rw (ne_eqb kind 0 o, eq-eqb kind 1 z) (get_or_default point load nan zero64 p.within)))
     column_scans None z p = λ _ _. rw (← e, ← f, ne_eqb kind 0 (λ y. omega arith), eq-eqb kind 1 z, le-ltb load (length point) p)
 
     pub shared_scans : (found : Option Scanned) → kind ≡ 2
@@ -120,26 +123,27 @@ module _ (ws : List ℕ) (xs point values : List Float) where
         let o' : kind ≡ 1 → ⊥ = λ y. omega arith in
         λ d. rw p.is (leaf_reads d at k kind load k (get_or values load nan) h e f (omega arith)
         (rw (ne_eqb kind 0 o, ne_eqb kind 1 o', eq-eqb kind 2 z, lt-ltb load (length values) p.within)) (rw (ne_eqb kind 0 o, add-zero k))
-        (rw (ne_eqb kind 0 o, ne_eqb kind 1 o') (any_default values load nan zero64 p.within)))
+        (rw (ne_eqb kind 0 o, ne_eqb kind 1 o') (get_or_default values load nan zero64 p.within)))
     shared_scans None z p = λ _ _. rw (← e, ← f, ne_eqb kind 0 (λ y. omega arith), ne_eqb kind 1 (λ y. omega arith), eq-eqb kind 2 z, le-ltb load (length values) p)
 
   -- ---- operands
 
   -- a product of two
-  pub a_product : (d at k : ℕ) (a b : Scanned) → at < length ws → get_or ws at 0 ≡ 0x5000_0000 → Reads ws xs point values (suc d) (at + 1) k a → Reads ws xs point values (suc d) a.end.at a.end.next b
+  pub a_product : (d at k : ℕ) (a b : Scanned) → is_mark ws 5 0 at ≡ true → Reads ws xs point values (suc d) (at + 1) k a → Reads ws xs point values (suc d) a.end.at a.end.next b
       → Reads ws xs point values (suc (suc d)) at k (record { value = a.value ⊗ b.value; in_range = a.in_range && b.in_range; end = b.end })
   unfolding word_ok arity uses step applied argument_ok
-  a_product d at k a b h w p q = record {
-    went = spelled ws (length xs) (length point) (length values) (suc d) at k ∙ rw (lt-ltb at (length ws) h, w, add-zero k, p.went, q.went);
+  a_product d at k a b m p q = record {
+    went = let (h, kind, load) = marked ws 5 0 at m in spelled ws (length xs) (length point) (length values) (suc d) at k ∙ rw (lt-ltb at (length ws) h, kind, load, add-zero k, p.went, q.went);
     is =
+        let (h, kind, load) = marked ws 5 0 at m in
         let f = parse ws (patterns xs) (suc d) in
         let x = evaluated point values (parse ws (patterns xs) (suc (suc d)) at) in
         let one : 0 + 1 ≡ 1 = omega arith in
-        let m : suc (suc d) - 1 ≡ suc d = omega arith in
-        let z = rw m at (begins ws (patterns xs) point values (suc (suc d)) at 5 0 2 (λ y. omega arith) h (rw w) (rw w) (omega arith) refl) in
+        let e : suc (suc d) - 1 ≡ suc d = omega arith in
+        let z = rw e at (begins ws (patterns xs) point values (suc (suc d)) at 5 0 2 (λ y. omega arith) h (sym kind) (sym load) (omega arith) refl) in
         let y = goes_on ws (patterns xs) point values f 5 2 0 (at + 1) zero64 true (worth a) a.value x (omega arith) z (sym p.is) refl in
         let v = goes_on ws (patterns xs) point values f 5 2 (0 + 1) a.end.at a.value (true && a.in_range) (worth b) (a.value ⊗ b.value) x (omega arith) y (sym q.is) refl in
-        sym (ends ws (patterns xs) point values f 5 2 (0 + 1 + 1) b.end.at (a.value ⊗ b.value) ((true && a.in_range) && b.in_range) x (omega arith) v) ∙ rw (and_true (a.in_range && b.in_range));
+        sym (ends ws (patterns xs) point values f 5 2 (0 + 1 + 1) b.end.at (a.value ⊗ b.value) ((true && a.in_range) && b.in_range) x (omega arith) v) ∙ rw (and-true (a.in_range && b.in_range));
   }
 
   -- a word with no operands is a leaf's
@@ -149,7 +153,7 @@ module _ (ws : List ℕ) (xs point values : List Float) where
   leaf_only (suc d) at k h (Some s) w nz p n f = f d
   leaf_only (suc d) at k h None w nz p n f =
       let (ok, arity-is) = open_head at k h p in
-      let inside = head_inside ws (length xs) (length point) (length values) at k h.operands h.next _ p refl in
+      let inside = head_inside ws (length xs) (length point) (length values) at k _ h p refl in
       let bad = f inside (no_operands (length xs) (length point) (length values) k _ _ ok (sym arity-is ∙ n)) in
       absurd (true≢false (sym ok ∙ bad))
 
@@ -162,10 +166,10 @@ module _ (ws : List ℕ) (xs point values : List Float) where
   module _ (depth at k kind : ℕ) (h : Head) (deep : depth ≡ 0 → ⊥) (p : Some h ≡ read_head ws (length xs) (length point) (length values) at k) (e : kind ≡ kind_of (get_or ws at 0)) where
     pub gathered_none : (h.operands ≡ 0 → ⊥) → Gathered depth at k kind h.operands (scanned zero64 true (at + 1) h.next) 0
     gathered_none some = record {
-      went = head_open ws (length xs) (length point) (length values) depth at k h.operands h.next _ deep p refl;
+      went = head_open ws (length xs) (length point) (length values) depth at k _ h deep p refl;
       is =
           let here = rw (← e) at (open_head at k h p).1 in
-          begins ws (patterns xs) point values depth at kind _ h.operands deep (head_inside ws (length xs) (length point) (length values) at k h.operands h.next _ p refl) e refl (has_operands kind _ h.operands some here) here;
+          begins ws (patterns xs) point values depth at kind _ h.operands deep (head_inside ws (length xs) (length point) (length values) at k _ h p refl) e refl (has_operands kind _ h.operands some here) here;
     }
 
   pub gathered_more : (depth at k kind n i : ℕ) (s e : Scanned) → i < n → Gathered depth at k kind n s i → Reads ws xs point values (depth - 1) s.end.at s.end.next e
@@ -174,6 +178,26 @@ module _ (ws : List ℕ) (xs point values : List Float) where
     went = one_more_is _ n i s.end.at s.end.next e.end.at e.end.next _ _ h g.went refl p.went;
     is = goes_on ws (patterns xs) point values (parse ws (patterns xs) (depth - 1)) kind n i s.end.at s.value s.in_range (worth e) _ _ h g.is (sym p.is) refl;
   }
+
+  pub gathered_next : (depth at k kind n i : ℕ) (s e : Scanned) → i < n → 1 ≤ i → Gathered depth at k kind n s i → Reads ws xs point values (depth - 1) s.end.at s.end.next e
+      → Gathered depth at k kind n (record { value = step kind s.value e.value; in_range = s.in_range && e.in_range; end = e.end }) (i + 1)
+  gathered_next depth at k kind n i s e h o g p = rw (ne_eqb i 0 (λ z. omega arith)) at (gathered_more depth at k kind n i s e h g p)
+
+  some_operand : (n : ℕ) → (n ≡ 0 → ⊥) → 0 < n
+  some_operand zero f = absurd (f refl)
+  some_operand (suc n) f = omega arith
+
+  module _ (depth at k : ℕ) (h : Head) (deep : depth ≡ 0 → ⊥) (p : Some h ≡ read_head ws (length xs) (length point) (length values) at k) (some : h.operands ≡ 0 → ⊥) where
+    -- the first operand is taken as it is
+    pub gathered_one : (kind : ℕ) (s : Scanned) → kind ≡ kind_of (get_or ws at 0) → Reads ws xs point values (depth - 1) (at + 1) h.next s → Gathered depth at k kind h.operands s 1
+    gathered_one kind s e r =
+        gathered_more depth at k kind h.operands 0 (scanned zero64 true (at + 1) h.next) s (some_operand h.operands some) (gathered_none depth at k kind h deep p e some) r
+
+    pub first_wrong : (w : WrongWord) → read_at (depth - 1) (at + 1) h.next ≡ Err w → read_at depth at k ≡ Err w
+    first_wrong w e =
+        head_open ws (length xs) (length point) (length values) depth at k _ h deep p refl
+        ∙ many_more (read_at (depth - 1)) h.operands 0 (at + 1) h.next (some_operand h.operands some)
+        ∙ ap (λ x. after x (many (read_at (depth - 1)) (h.operands - (0 + 1)))) e
 
   pub gathered_all : (depth at k kind n i : ℕ) (s : Scanned) → n ≤ i → Gathered depth at k kind n s i
       → Reads ws xs point values depth at k (record { value = applied kind s.value; in_range = s.in_range && argument_ok kind s.value; end = s.end })
@@ -194,11 +218,11 @@ module _ (ws : List ℕ) (xs point values : List Float) where
   two_levels (suc zero) at k s h f = absurd (omega arith)
   two_levels (suc (suc d)) at k s h f = f d
 
-  -- ---- the exit of a `?`
+-- ---- the exit of a `?`
 
-  pub wrong_exit : (depth at k : ℕ) (r : Result Scanned WrongWord) (e : WrongWord) → IsErrAnd r (λ y. y ≡ e) → read_at depth at k ≡ Err e → Scans ws xs point values depth at k r
-  wrong_exit depth at k (Ok s) e h w = absurd h
-  wrong_exit depth at k (Err y) e h w = w ∙ ap (λ x. Err x) (sym h)
+pub exit_as : {T E : Type 0} (P : Result T E → Type 0) (r : Result T E) (e : E) → IsErrAnd r (λ y. y ≡ e) → P (Err e) → P r
+exit_as P (Ok x) e h p = absurd h
+exit_as P (Err y) e h p = rw h p
 
 -- what it returns of a missing value
 pub missing_exit : {A : Type 0} (found : Option A) (w e : WrongWord) (r : Result A WrongWord) → r ≡ Err e → r ≡ ok_or found w → e ≡ w

@@ -30,9 +30,7 @@ fn step(kind: Kind, a: f64, b: f64) -> f64
 fn inside(a: f64) -> bool
     ensures { result ≡ inside a }
 {
-    let above = -4096.0 <= a;
-    let below = a <= 4096.0;
-    above & below
+    (-4096.0..=4096.0).contains(&a)
 }
 
 // An expression's value, whether 14 spares it, and where it ends.
@@ -55,21 +53,16 @@ impl Scanned {
         })
     }
 
-    // Operand i, gathered with those before it: the first is taken as it is.
-    fn gather(self, kind: Kind, i: usize, operand: Scanned) -> Scanned
+    // One operand more, gathered with those before it.
+    fn gather(self, kind: Kind, operand: Scanned) -> Scanned
         ensures { result ≡ record {
-          value = cond (eqb i 0) operand.value (step (number_of kind) self.value operand.value);
+          value = step (number_of kind) self.value operand.value;
           in_range = self.in_range && operand.in_range;
           end = operand.end;
         } }
     {
-        let value = if i == 0 {
-            operand.value
-        } else {
-            step(kind, self.value, operand.value)
-        };
         Scanned {
-            value,
+            value: step(kind, self.value, operand.value),
             in_range: self.in_range & operand.in_range,
             end: operand.end,
         }
@@ -151,14 +144,11 @@ impl<'a> Evaluation<'a> {
         ensures { let e = self.now in
             (d : ℕ) → Finds e.words.now e.constants.now e.point.now e.shared.now (suc (suc d)) from.at from.next result }
     {
-        if *self.words.get(from.at)? != 0x5000_0000 {
+        let file = self.file();
+        if !file.is_word(Kind::Multiply.number(), 0, from.at) {
             return None;
         }
-        let first = Cursor {
-            at: from.at + 1,
-            ..from
-        };
-        let a = self.leaf(first)?;
+        let a = self.leaf(file.past(from))?;
         let b = self.leaf(a.end)?;
         Some(Scanned {
             value: a.value * b.value,
@@ -183,7 +173,20 @@ impl<'a> Evaluation<'a> {
         self.leaf(from)
     }
 
+    // The expression there, of at most so many levels: most are shallow.
+    #[cycle(scan_expr)]
+    fn operand(&self, from: Cursor, depth: u32) -> Result<Scanned, WrongWord>
+        ensures { let e = self.now in
+            Scans e.words.now e.constants.now e.point.now e.shared.now depth from.at from.next result }
+    {
+        match self.shallow(from, depth) {
+            Some(operand) => Ok(operand),
+            None => self.scan_expr(from, depth),
+        }
+    }
+
     // Reads and works out the expression there, of at most `depth` levels: its word, then its operands in order.
+    #[cycle(scan_expr)]
     fn scan_expr(&self, from: Cursor, depth: u32) -> Result<Scanned, WrongWord>
         ensures { let e = self.now in
             Scans e.words.now e.constants.now e.point.now e.shared.now depth from.at from.next result }
@@ -192,27 +195,21 @@ impl<'a> Evaluation<'a> {
         if depth == 0 {
             return Err(wrong);
         }
-        let head = self.file().read_head(from, self.shared.len()).ok_or(wrong)?;
+        let file = self.file();
+        let head = file.read_head(from, self.shared.len()).ok_or(wrong)?;
         if head.operands == 0 {
             return self.leaf(from).ok_or(wrong);
         }
-        let kind = Kind::of(base::kind_of(self.words[from.at])).ok_or(wrong)?;
-        let mut gathered = Scanned {
-            value: 0.0,
-            in_range: true,
-            end: Cursor {
-                at: from.at + 1,
-                next: head.next,
-            },
+        let first = Cursor {
+            next: head.next,
+            ..file.past(from)
         };
-        for i in 0..head.operands {
-            let operand = match self.shallow(gathered.end, depth - 1) {
-                Some(operand) => operand,
-                None => self.scan_expr(gathered.end, depth - 1)?,
-            };
-            gathered = gathered.gather(kind, i, operand);
+        let mut gathered = self.operand(first, depth - 1)?;
+        for _ in 1..head.operands {
+            let operand = self.operand(gathered.end, depth - 1)?;
+            gathered = gathered.gather(head.kind, operand);
         }
-        Ok(gathered.finish(kind))
+        Ok(gathered.finish(head.kind))
     }
 
     // Reads and works out the expression of a part, whose words start there.

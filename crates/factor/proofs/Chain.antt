@@ -1,14 +1,17 @@
 -- From what factor_fault holds to the parts of refusal 11.
-use mathlib.Core.Path.{◌≡◌, ap, ◌∙◌}
+use mathlib.Core.Path.{◌≡◌, refl, ap, ◌∙◌}
 use mathlib.Core.Bool.{cond, not, ◌&&◌}
-use mathlib.Core.List.{List}
+use mathlib.Core.List.{List, [], ◌∷◌}
 use Prim.Native.Nat.{ℕ, ◌+◌, ◌-◌, ◌*◌}
+use native.Mathlib.Nat.{add-zero}
 use native.Mathlib.Omega.{arith}
 use lib.Dec.{eqb}
 use lib.Ieee.{Float}
 use lib.ListN.{length}
-use Rattle.base.specs.Fault.{or_else}
-use Rattle.base.specs.Loop.{tally}
+use Rattle.base.specs.Fault.{or_else, first}
+use Rattle.base.specs.Loop.{loop, tally}
+use Rattle.base.specs.Refusal.{FACTOR}
+use Rattle.lists.specs.internal.From.{non_finite_from}
 use Rattle.base.proofs.Firsts.{Clear}
 use Rattle.tables.specs.Fault.{fault_tables}
 use Rattle.network.specs.Layout.{Laid}
@@ -41,3 +44,8 @@ module _ (ws : List ℕ) (xs : List Float) {l : Layout} {t : Tallies} (L : Laid 
 pub later_at : (ws : List ℕ) (xs : List Float) {a b : ℕ} → a ≡ b
     → or_else (non_finite (objective_constant ws xs) a) (epigraphs_factor ws xs (a + 1)) ≡ or_else (non_finite (objective_constant ws xs) b) (epigraphs_factor ws xs (b + 1))
 later_at ws xs e = ap (λ p. or_else (non_finite (objective_constant ws xs) p) (epigraphs_factor ws xs (p + 1))) e
+
+-- two numbers, one after the other
+pub pair_is : (x y : Float) (place : ℕ) → non_finite_from FACTOR place (x ∷ y ∷ []) ≡ or_else (non_finite x place) (non_finite y (place + 1))
+unfolding non_finite_from first loop or_else
+pair_is x y place = rw (add-zero place) refl

@@ -1,20 +1,18 @@
 // Refusal 11, factor: the first number of the model that is not finite. Of a network that 1 to 10 do not refuse only the numbers looked
 // at here can be non-finite.
-ghost use Rattle.std.specs.Prelude.{◌≡◌, ℕ, ◌+◌, ◌*◌, ◌≤◌, ◌<◌, length};
+ghost use Rattle.std.specs.Prelude.{◌≡◌, ◌+◌, ◌-◌, ◌*◌, ◌≤◌, ◌<◌};
 ghost use Rattle.base.specs.Fault.{fault_of, or_else};
-ghost use Rattle.network.specs.Limits.{most_points};
-ghost use Rattle.piecewise_cost.specs.Curve.{slope, intercept};
-ghost use Rattle.tables.specs.Fault.{fault_tables};
 ghost use Rattle.acopf.specs.Factor.{fault_factor};
 ghost use Rattle.acopf.specs.Model.{objective_constant};
 ghost use Rattle.factor.specs.internal.NonFinite.{non_finite, segments_fault, branches_factor, curves_factor, epigraphs_factor, curves_on};
 
-use acopf::{Case, counted, epigraph_start, objective_constant, objective_constants, row_segments};
+use crate::clear::Clear;
+use acopf::{epigraph_start, objective_constant};
 use base::{Reason, Refusal, unless};
 use lists::first_non_finite;
 use network::Tables;
 use pi_model::coefficients;
-use piecewise_cost::{intercept_of, slope_of};
+use piecewise_cost::{Curve, Segment};
 
 // The coefficients of all branches, twelve each.
 fn branches_factor(tables: &Tables) -> Result<(), Refusal>
@@ -28,24 +26,20 @@ fn branches_factor(tables: &Tables) -> Result<(), Refusal>
 }
 
 // A segment's slope and intercept.
-fn segment_fault(numbers: &[f64], at: usize, segment: usize, place: usize) -> Result<(), Refusal>
-    requires { (at + 2 * segment + 4 ≤ length numbers.now) × (place ≤ 0xffff) }
-    ensures { fault_of result ≡ or_else (non_finite (slope numbers.now at segment) place)
-        (non_finite (intercept numbers.now at segment) (place + 1)) }
+fn segment_fault(segment: Segment, place: usize) -> Result<(), Refusal>
+    requires { place ≤ 0xffff }
+    ensures { fault_of result ≡ or_else (non_finite segment.slope place) (non_finite segment.intercept (place + 1)) }
 {
-    let slope = float::is_finite(slope_of(numbers, at, segment));
-    unless(slope, Reason::Factor, place)?;
-    let intercept = float::is_finite(intercept_of(numbers, at, segment));
-    unless(intercept, Reason::Factor, place + 1)
+    first_non_finite(&[segment.slope, segment.intercept], Reason::Factor, place)
 }
 
-// A curve's first `count` segments.
-fn segments_fault(numbers: &[f64], at: usize, count: usize, place: usize) -> Result<(), Refusal>
-    requires { ((s : ℕ) → s < count → at + 2 * s + 4 ≤ length numbers.now) × (count ≤ most_points) × (place ≤ 0x4000) }
-    ensures { fault_of result ≡ segments_fault numbers.now at count place }
+// All segments of a curve.
+fn segments_fault(curve: &Curve, place: usize) -> Result<(), Refusal>
+    requires { place ≤ 0x4000 }
+    ensures { fault_of result ≡ segments_fault curve.now.numbers.now curve.now.at (curve.now.points - 1) place }
 {
-    for s in 0..count {
-        segment_fault(numbers, at, s, place + 2 * s)?;
+    for s in 0..curve.segments() {
+        segment_fault(curve.segment(s), place + 2 * s)?;
     }
     Ok(())
 }
@@ -57,9 +51,11 @@ fn curves_factor(tables: &Tables, start: usize) -> Result<(), Refusal>
 {
     let mut place = start;
     for (_, generator) in tables.generators() {
-        let count = row_segments(generator.curved, generator.points);
-        segments_fault(tables.numbers, generator.curve, count, place)?;
-        place += 2 * count;
+        if generator.curved() {
+            let curve = Curve::new(tables.numbers, &generator);
+            segments_fault(&curve, place)?;
+            place += 2 * curve.segments();
+        }
     }
     Ok(())
 }
@@ -69,11 +65,11 @@ fn epigraphs_factor(tables: &Tables, start: usize) -> Result<(), Refusal>
     requires { start ≤ 0x4000 }
     ensures { fault_of result ≡ epigraphs_factor tables.now.words.now tables.now.numbers.now start }
 {
-    let mut place = start + 2 * tables.layout.buses + 2 * tables.layout.generators;
     for (_, generator) in tables.generators() {
-        let finite = float::is_finite(epigraph_start(tables.numbers, generator));
-        unless(!generator.curved | finite, Reason::Factor, place)?;
-        place = counted(place, generator.curved);
+        if let Some(epigraph) = generator.epigraph {
+            let finite = float::is_finite(epigraph_start(tables.numbers, generator));
+            unless(finite, Reason::Factor, start + epigraph)?;
+        }
     }
     Ok(())
 }
@@ -90,23 +86,21 @@ fn later_factor(tables: &Tables, count: usize) -> Result<(), Refusal>
 }
 
 // The curves' constants, then what follows the constants.
-fn curves_on(case: &Case) -> Result<(), Refusal>
-    requires { (fault_tables case.now.tables.words.now case.now.tables.numbers.now).number ≡ 0 }
-    ensures { fault_of result ≡ curves_on case.now.tables.words.now case.now.tables.numbers.now }
+fn curves_on(clear: &Clear) -> Result<(), Refusal>
+    ensures { fault_of result ≡ curves_on clear.now.case.tables.words.now clear.now.case.tables.numbers.now }
 {
-    let layout = case.tables.layout;
-    let tallies = case.tallies;
+    let tables = &clear.case.tables;
+    let layout = tables.layout;
+    let tallies = clear.case.tallies;
     let start = 4 * layout.buses + 16 * layout.branches + 2 * tallies.rated;
-    curves_factor(&case.tables, start)?;
-    let own = objective_constants(layout.costs, layout.generators, tallies.epigraphs);
-    later_factor(&case.tables, start + 2 * tallies.segments + own)
+    curves_factor(tables, start)?;
+    later_factor(tables, clear.constants())
 }
 
-// Of a network that 1 to 10 do not refuse.
-pub fn factor_fault(case: &Case) -> Result<(), Refusal>
-    requires { (fault_tables case.now.tables.words.now case.now.tables.numbers.now).number ≡ 0 }
-    ensures { fault_of result ≡ fault_factor case.now.tables.words.now case.now.tables.numbers.now }
+// 11.
+pub fn factor_fault(clear: &Clear) -> Result<(), Refusal>
+    ensures { fault_of result ≡ fault_factor clear.now.case.tables.words.now clear.now.case.tables.numbers.now }
 {
-    branches_factor(&case.tables)?;
-    curves_on(case)
+    branches_factor(&clear.case.tables)?;
+    curves_on(clear)
 }

@@ -20,6 +20,8 @@ fn from_high_word(h: u64) -> f64
     float::from_bits(h * 0x1_0000_0000)
 }
 
+// fdlibm's a, b, ha and hb stay four parameters, here and below: where of_small scales a and b by a product, ha and hb are kept and are no
+// longer their high words, so that no fact of a struct could tie them, and each function needs another bound of ha and hb.
 fn when_wide(a: f64, b: f64, ha: u64) -> f64
     requires { ha < 2 ^ 32 }
     ensures { result ≡ wide a b ha }

@@ -2,7 +2,7 @@
 // and prints how many there were of each, and how many answers were not the stored one to the bit.
 #![tactic(auto)]
 
-use little_endian::bits_at;
+use little_endian::Record;
 use std::{fmt, fs, io};
 
 const RECORD: usize = 32;
@@ -16,17 +16,6 @@ enum Function {
 }
 
 impl Function {
-    // The function with that number in the file.
-    fn numbered(number: u64) -> Option<Function> {
-        match number {
-            0 => Some(Function::Sin),
-            1 => Some(Function::Cos),
-            2 => Some(Function::Sqrt),
-            3 => Some(Function::Hypot),
-            _ => None,
-        }
-    }
-
     fn at(self, x: f64, y: f64) -> f64 {
         match self {
             Function::Sin => fdlibm::sin(x),
@@ -37,26 +26,42 @@ impl Function {
     }
 }
 
-// A record of the file: the function and whether its answer is the stored one. The floats are bits, and a NaN's are one pattern, in the
-// file too.
+// That a number in the file is no function's.
+#[derive(Clone, Copy, Debug, PartialEq, Eq)]
+struct UnknownFunction;
+
+impl TryFrom<u64> for Function {
+    type Error = UnknownFunction;
+
+    fn try_from(number: u64) -> Result<Function, UnknownFunction> {
+        match number {
+            0 => Ok(Function::Sin),
+            1 => Ok(Function::Cos),
+            2 => Ok(Function::Sqrt),
+            3 => Ok(Function::Hypot),
+            _ => Err(UnknownFunction),
+        }
+    }
+}
+
+// What a record of the file shows: the function, and whether its answer is the stored one.
 struct Tried {
     function: Function,
     right: bool,
 }
 
 impl Tried {
-    // None where the record is cut short, or its number is no function's.
-    fn of(record: &[u8]) -> Option<Tried> {
-        if record.len() < RECORD {
+    // None where the record is cut short, or its number is no function's. Answers are compared by their bits: a NaN's are one pattern,
+    // in the file too.
+    fn of(record: Record) -> Option<Tried> {
+        if record.bytes.len() < RECORD {
             return None;
         }
-        let function = Function::numbered(bits_at(record, 0))?;
-        let x = float::from_bits(bits_at(record, 8));
-        let y = float::from_bits(bits_at(record, 16));
-        let answer = float::to_bits(function.at(x, y));
+        let function = Function::try_from(record.bits(0)).ok()?;
+        let answer = function.at(record.float(1), record.float(2));
         Some(Tried {
             function,
-            right: answer == bits_at(record, 24),
+            right: float::to_bits(answer) == record.bits(3),
         })
     }
 }
@@ -102,7 +107,7 @@ fn main(rt: HostRuntime) -> io::Result<()> {
     let bytes = fs::read(&rt, "vectors.bin")?;
     let mut counts = Counts::default();
     for record in bytes.chunks(RECORD) {
-        counts.count(Tried::of(record));
+        counts.count(Tried::of(Record { bytes: record }));
     }
     println!(rt; "{counts}")
 }

@@ -1,3 +1,4 @@
+pub mod Found
 pub mod NonFinite
 pub mod Point
-pub mod Copy
+pub mod Pairs

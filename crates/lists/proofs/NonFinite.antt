@@ -1,5 +1,6 @@
 -- Laws of the first number that is not finite: in the front of a list, and in lists one after the other.
 use mathlib.Core.Path.{◌≡◌, refl, ap, sym}
+use mathlib.Core.Bool.{true, false}
 use mathlib.Core.Logic.{◌↔◌}
 use mathlib.Core.List.{List, ◌++◌}
 use Prim.Native.Nat.{ℕ, zero, suc, ◌+◌, ◌<◌}
@@ -9,12 +10,15 @@ use lib.Ieee.{Float, nan}
 use lib.ListN.{length, get_or, length-append, get_or-append}
 use lib.Seq.{get_or-append-add}
 use Rattle.base.specs.Fault.{Fault}
-use Rattle.base.specs.Fault.{fault, unless, or_else, first}
+use Rattle.base.specs.Fault.{fault, fault_at, unless, or_else, first}
 use Rattle.base.specs.Loop.{loop}
+use Rattle.std.specs.List.{AllWithin, HoldsAt}
+use Rattle.std.specs.Prelude.{Option, MatchOption}
 use Rattle.base.proofs.Firsts.{Clear, Proper, unless_proper, first_proper, unless_true, unless_clear, first_clear, all_clear}
 use Rattle.base.proofs.Firsts.{Spans, spans_unless, spans_first, FirstFail, first_fails}
 use Rattle.base.proofs.Scans.{or_none, or_assoc, first_same}
 use Rattle.float.specs.Number.{is_finite, AllFinite}
+use Rattle.lists.proofs.Found.{found_at}
 use Rattle.lists.specs.Finite.{first_non_finite}
 use Rattle.lists.specs.internal.From.{non_finite_from}
 
@@ -39,6 +43,14 @@ module _ (number from : ℕ) where
         first_same (length b) (λ i. unless (is_finite (get_or (a ++ b) (length a + i) nan)) (fault number (from + (length a + i)))) (λ i. unless (is_finite (get_or b i nan)) (fault number (next + i)))
             (λ i l. let q : from + (length a + i) ≡ next + i = omega arith in rw (get_or-append-add a b i nan, q)),
       )
+
+  -- what `position` finds
+  pub found : (l : List Float) (r : Option ℕ) → 0 < number
+      → MatchOption r (AllWithin (λ x. is_finite x ≡ true) l 0 (length l))
+      (λ i. (i < length l) × HoldsAt (λ x. is_finite x ≡ false) l i × AllWithin (λ x. is_finite x ≡ true) l 0 i)
+      → fault_at number from r ≡ non_finite_from number from l
+  unfolding non_finite_from
+  found l r p h = found_at nan is_finite number l from r p h
 
   -- a whole list
   pub non_finite_whole : (l : List Float) → first (length l) (λ i. unless (is_finite (get_or l i nan)) (fault number (from + i))) ≡ non_finite_from number from l

@@ -1,5 +1,5 @@
 -- Refusal 13: its number, and its place at the right length and at another.
-use mathlib.Core.Path.{◌≡◌, ap, sym}
+use mathlib.Core.Path.{◌≡◌, ap}
 use mathlib.Core.List.{List}
 use Prim.Native.Nat.{ℕ}
 use native.Mathlib.Omega.{arith}
@@ -12,8 +12,7 @@ use Rattle.base.specs.Refusal.{POINT}
 use Rattle.base.proofs.Firsts.{Clear, Spans, spans_unless, spans_or, or_go, or_left, unless_true, unless_clear, FirstFail}
 use Rattle.float.specs.Number.{is_finite}
 use Rattle.lists.specs.Finite.{first_non_finite, point_fault}
-use Rattle.lists.specs.internal.From.{non_finite_from}
-use Rattle.lists.proofs.NonFinite.{non_finite_zero, non_finite_spans, non_finite_place}
+use Rattle.lists.proofs.NonFinite.{non_finite_spans, non_finite_place}
 
 module _ (x : List Float) (columns : ℕ) where
   pub point_spans : Spans POINT POINT (point_fault x columns)
@@ -38,7 +37,3 @@ module _ (x : List Float) (columns : ℕ) where
   pub point_given : Clear (point_fault x columns) → length x ≡ columns
   unfolding point_fault
   point_given c = eqb-true _ _ (unless_true _ POINT columns (omega arith) (or_left _ _ c))
-
-  -- what the code looks at, where the length is right
-  pub point_rest : length x ≡ columns → non_finite_from POINT 0 x ≡ point_fault x columns
-  point_rest e = rw (non_finite_zero POINT x) (sym (right_length e))

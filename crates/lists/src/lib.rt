@@ -1,40 +1,35 @@
 // Lists of numbers, lent or scratch: the front copied, the first number that is not finite, and refusal 13.
 #![tactic(auto)]
 
-ghost use Rattle.std.specs.Prelude.{◌≡◌, ◌++◌, ◌+◌, ◌<◌, ◌≤◌, length, take, drop};
-ghost use Rattle.base.specs.Fault.{fault_of};
+ghost use Rattle.std.specs.Prelude.{ℕ, ◌≡◌, ◌++◌, ◌+◌, ◌<◌, ◌≤◌, length, take, drop, IfSome};
+ghost use Rattle.base.specs.Fault.{fault_of, fault_at};
 ghost use Rattle.base.specs.Refusal.{number_of};
 ghost use Rattle.lists.specs.Finite.{point_fault};
 ghost use Rattle.lists.specs.internal.From.{non_finite_from};
 
-use base::{Reason, Refusal};
+use base::{Reason, Refusal, unless, unless_found};
 
-// The first of the list's numbers that is not finite; its place is counted from `from` on.
+// Where the first of the list's numbers stands that is not finite.
+pub fn non_finite(list: &[f64]) -> Option<usize>
+    ensures first { (number from : ℕ) → 0 < number → fault_at number from result ≡ non_finite_from number from list.now }
+    ensures place { IfSome result (λ i. i < length list.now) }
+{
+    list.iter().position(|x| !float::is_finite(*x))
+}
+
+// The refusal of such a number, whose place is counted from `from` on.
 pub fn first_non_finite(list: &[f64], reason: Reason, from: usize) -> Result<(), Refusal>
     requires { from + length list.now < 0xffff_ffff_ffff_ffff }
     ensures { fault_of result ≡ non_finite_from (number_of reason) from list.now }
 {
-    for (i, x) in list.iter().enumerate() {
-        if !float::is_finite(*x) {
-            return Err(Refusal {
-                reason,
-                place: from + i,
-            });
-        }
-    }
-    Ok(())
+    unless_found(non_finite(list), reason, from)
 }
 
 // 13, where there are so many columns.
 pub fn point_fault(point: &[f64], columns: usize) -> Result<(), Refusal>
     ensures { fault_of result ≡ point_fault point.now columns }
 {
-    if point.len() != columns {
-        return Err(Refusal {
-            reason: Reason::Point,
-            place: columns,
-        });
-    }
+    unless(point.len() == columns, Reason::Point, columns)?;
     first_non_finite(point, Reason::Point, 0)
 }
 

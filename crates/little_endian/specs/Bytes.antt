@@ -14,6 +14,10 @@ bits_at bytes at = word_at bytes at + word_at bytes (at + 4) * 0x1_0000_0000
 abbrev pub number_at : List ℕ → ℕ → Float
 number_at bytes at = of_bits binary64 (bits_at bytes at)
 
--- word i of a record; 0 past the last whole word
-unfoldable pub record_word : List ℕ → ℕ → ℕ
-record_word bytes i = cond (ltb i (length bytes / 4)) (word_at bytes (i * 4)) 0
+-- the i-th 64 bits of a record; 0 past the last whole ones
+unfoldable pub record_bits : List ℕ → ℕ → ℕ
+record_bits bytes i = cond (ltb i (length bytes / 8)) (bits_at bytes (i * 8)) 0
+
+-- word i of a record that starts at word `at`; 0 past the last whole word
+unfoldable pub record_word : List ℕ → ℕ → ℕ → ℕ
+record_word bytes at i = cond (ltb (at + i) (length bytes / 4)) (word_at bytes ((at + i) * 4)) 0

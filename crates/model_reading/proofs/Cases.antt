@@ -4,9 +4,9 @@ use mathlib.Core.List.{List, [], ◌∷◌}
 use Prim.Native.Nat.{ℕ}
 use lib.ListN.{take}
 use Rattle.nl.specs.Expr.{Expr, constant, column, shared, over, none, more}
-use Rattle.nl.specs.Reader.{word_ok, arity, uses, read_head, read_expr, is_mark, read_parts, read_last, read_end}
+use Rattle.nl.specs.Reader.{word_ok, arity, uses, read_head, read_expr, is_mark, read_parts, read_last, read_end, read_after, read_file}
 use Rattle.model_reading.specs.Parse.{leaf_of, headed, parse, part}
-use Rattle.model_reading.specs.Reading.{layout_after, file_layout, Reading, yields, wrong, reading}
+use Rattle.model_reading.specs.Reading.{file_layout, Reading, yields, wrong, reading}
 
 -- shared part 0 is the square of column 0, row 0 is shared part 0 plus constant 0, the objective is constant 1
 abbrev small : List ℕ
@@ -51,5 +51,5 @@ cases =
     case (0xA0000000 ∷ 0x20000000 ∷ smallest) [] 1 (wrong 1) ∷ case (0xC0000000 ∷ 0x10000000 ∷ 0xD0000000 ∷ 0xD0000000 ∷ []) [] 1 (wrong 3) ∷ case [] [] 0 (wrong 0) ∷ []
 
 all_right : are cases ≡ answers cases
-unfolding reading file_layout layout_after word_ok arity uses read_head read_expr is_mark read_parts read_last read_end leaf_of headed parse part
+unfolding reading file_layout read_file read_after word_ok arity uses read_head read_expr is_mark read_parts read_last read_end leaf_of headed parse part
 all_right = refl

@@ -17,7 +17,7 @@ use Rattle.nl.specs.declared.reader.Span.{Span}
 use Rattle.nl.specs.Expr.{Terms, none, more, count, constants, constants_of, next, words}
 use Rattle.nl.specs.File.{Model, part_words, at_rows, at_objective, model_words, model_constants, StandsFor}
 use Rattle.nl.specs.Finder.{refused, find}
-use Rattle.nl.specs.Reader.{Read, span}
+use Rattle.nl.specs.Reader.{Read, span, read_after, read_file}
 use Rattle.nl.specs.Reader as reader
 use Rattle.nl.proofs.Build.{drop_past}
 use Rattle.nl.proofs.Condition3.{any_row, seventeen}
@@ -29,7 +29,7 @@ use Rattle.nl.proofs.Unique.{other_shared, other_objective}
 use Rattle.model_reading.specs.declared.FileLayout.{FileLayout}
 use Rattle.model_reading.specs.Parse.{part}
 use Rattle.model_reading.specs.Place.{size, place_of, rows_at, objective_at}
-use Rattle.model_reading.specs.Reading.{shared_limit, layout_after, file_layout, model_at, read_as, yields, wrong, reading}
+use Rattle.model_reading.specs.Reading.{shared_limit, file_layout, model_at, read_as, yields, wrong, reading}
 use Rattle.model_reading.proofs.Standing.{size_any, part_words_is, Standing, parts_stand, parse_parts}
 
 -- the model that is parsed at a layout's numbers and places
@@ -110,7 +110,7 @@ module _ (ws cs : List ℕ) (columns : ℕ) (M : Model) (S : StandsFor ws cs col
   objective_values = drop_past (at_rows M) cs (constants_of M.rows) _ (rows_values ws cs columns M S) ∙ sym (append-nil _)
 
   pub layout_is : file_layout ws (length cs) columns ≡ Ok (layout_of M)
-  unfolding model_words model_constants file_layout layout_after
+  unfolding model_words model_constants file_layout read_file read_after
   layout_is =
       let sh = M.shared in
       let rs = M.rows in
@@ -165,7 +165,7 @@ module _ (ws cs : List ℕ) (columns : ℕ) (M : Model) (S : StandsFor ws cs col
 -- ---- a file whose layout is read stands for a model
 
 pub layout_stands : (ws cs : List ℕ) (columns : ℕ) (l : FileLayout) → file_layout ws (length cs) columns ≡ Ok l → (M : Model) × StandsFor ws cs columns M
-unfolding file_layout layout_after
+unfolding file_layout read_file read_after
 layout_stands ws cs columns l e = file_sound ws cs columns shared_limit (go (outcome ws (length cs) columns shared_limit))
   where
     clash : {A : Type 0} (p : ℕ) → file_layout ws (length cs) columns ≡ reader.wrong p → A
@@ -205,7 +205,7 @@ yields_exactly ws cs columns M = (back (file_layout ws (length cs) columns) refl
 module _ (ws : List ℕ) (constants columns p : ℕ) where
   -- a layout fails where the finder, asked for that row, says 17
   failed_as : (file_layout ws constants columns ≡ reader.wrong p) ↔ (find ws constants columns shared_limit ≡ refused reason.Model p)
-  unfolding file_layout layout_after
+  unfolding file_layout read_file read_after
   failed_as = by (outcome ws constants columns shared_limit)
     where
       at_place : (q : ℕ) → file_layout ws constants columns ≡ reader.wrong q → find ws constants columns shared_limit ≡ refused reason.Model q

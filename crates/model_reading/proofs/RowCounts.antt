@@ -11,11 +11,11 @@ use Rattle.base.specs.declared.refusal.Refusal.{Refusal}
 use Rattle.nl.specs.declared.reader.Parts.{Parts}
 use Rattle.nl.specs.Expr.{count}
 use Rattle.nl.specs.File.{Model}
-use Rattle.nl.specs.Reader.{Read, read_parts}
+use Rattle.nl.specs.Reader.{Read, read_parts, read_after, read_file}
 use Rattle.nl.proofs.PartSound.{Outcome, in_shared, in_rows, in_end, passed, outcome}
 use Rattle.model_reading.specs.declared.FileLayout.{FileLayout}
 use Rattle.model_reading.specs.Place.{place_of}
-use Rattle.model_reading.specs.Reading.{shared_limit, layout_after, file_layout, yields, wrong, reading}
+use Rattle.model_reading.specs.Reading.{shared_limit, file_layout, yields, wrong, reading}
 use Rattle.model_reading.specs.Counts.{counts_of, row_counts}
 use Rattle.model_reading.proofs.Reading.{extra_place_is, no_extra_place, layout_is, layout_of, layout_stands, yields_exactly, wrong_failed}
 
@@ -51,7 +51,7 @@ module _ (ws cs : List ℕ) (columns : ℕ) where
 pub too_many : (ws : List ℕ) (constants columns : ℕ)
     → ((p : Parts) → read_parts ws constants columns (λ i. i) 10 shared_limit (length ws) 0 0 0 None ≡ Ok p → shared_limit < p.count)
     → IsErr (row_counts ws constants columns)
-unfolding counts_of file_layout layout_after
+unfolding counts_of file_layout read_file read_after
 too_many ws constants columns h =
     let l : length {A = ℕ} (replicate constants 0) ≡ constants = length-replicate constants 0 in
     rw l at (go (replicate constants 0) (rw l h))

@@ -1,9 +1,8 @@
 -- Document 01, "The model file": what reading yields, as a function of words, constants' patterns and a number of columns. That it yields M
 -- exactly where the file stands for M is proved (proofs/Reading).
-use Rattle.std.specs.Prelude.{ℕ, List, length, None, Ok, Err}
-use Rattle.nl.specs.declared.reader.Parts.{Parts}
+use Rattle.std.specs.Prelude.{ℕ, List, length, Ok, Err}
 use Rattle.nl.specs.File.{Model}
-use Rattle.nl.specs.Reader.{Read, read_parts, read_end}
+use Rattle.nl.specs.Reader.{Read, and_then, read_file}
 use Rattle.model_reading.specs.Parse.{parse_many, part}
 use Rattle.model_reading.specs.declared.FileLayout.{FileLayout}
 
@@ -11,29 +10,19 @@ use Rattle.model_reading.specs.declared.FileLayout.{FileLayout}
 abbrev pub shared_limit : ℕ
 shared_limit = 4352
 
--- what follows what was read; a wrong word ends it
-abbrev pub and_then : {A B : Type 0} → Read A → (A → Read B) → Read B
-and_then (Ok a) f = f a
-and_then (Err w) f = Err w
-
-module _ (ws : List ℕ) (constants columns : ℕ) where
-  -- rows and end, after the shared parts. Shared parts are numbered from 0: that of number 4,352 is the first too many
-  unfoldable pub layout_after : Parts → Read FileLayout
-  layout_after shared =
-      and_then (read_parts ws constants columns (λ i. shared.count) 11 shared_limit (length ws) 0 shared.end.at shared.end.next None)
-      (λ rows. and_then (read_end ws constants columns shared.count rows.end.at rows.end.next)
-      (λ _. Ok (record {
-        shared = shared.count;
-        rows = rows.count;
-        rows_at = shared.end.at;
-        objective_at = rows.end.at;
-        extra = shared.span;
-      })))
-
-  -- the numbers of shared parts and rows, the first row's and the objective's beginning words, and the expression of the first shared part
-  -- too many, where there is one; or the first wrong word, as the finder has it
-  unfoldable pub file_layout : Read FileLayout
-  file_layout = and_then (read_parts ws constants columns (λ i. i) 10 shared_limit (length ws) 0 0 0 None) layout_after
+-- the numbers of shared parts and rows, the first row's and the objective's beginning words, and the expression of the first shared part
+-- too many, where there is one; or the first wrong word, as the finder has it. Shared parts are numbered from 0: that of number 4,352 is the
+-- first too many
+unfoldable pub file_layout : List ℕ → ℕ → ℕ → Read FileLayout
+file_layout ws constants columns =
+    and_then (read_file ws constants columns shared_limit)
+    (λ parts. Ok (record {
+      shared = parts.shared.count;
+      rows = parts.rows.count;
+      rows_at = parts.shared.end.at;
+      objective_at = parts.rows.end.at;
+      extra = parts.shared.span;
+    }))
 
 -- what reading yields: shared parts, rows and an objective, or the place of refusal 17
 pub data Reading : Type 0 where

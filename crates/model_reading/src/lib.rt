@@ -6,13 +6,14 @@ ghost use Rattle.model_reading.specs.Reading.{file_layout};
 ghost use Rattle.model_reading.specs.Counts.{row_counts};
 
 use base::{Reason, Refusal};
-use nl::{Cursor, ModelFile, PartKind, Span, WrongWord};
+use nl::{FileParts, ModelFile, Span, WrongWord};
 
 // The most shared parts that are worked out.
 pub const SHARED_LIMIT: usize = 4352;
 
 // A file that passes reading: its numbers of shared parts and rows, the first row's and the objective's beginning words, and the
 // expression of the first shared part too many, where there is one.
+// The definitions of specs/Reading go by these names, and `FileParts` keeps a row's expression and the numbers of constants too.
 #[derive(Clone, Copy, Debug, PartialEq, Eq)]
 pub struct FileLayout {
     pub shared: usize,
@@ -23,16 +24,11 @@ pub struct FileLayout {
 }
 
 // Reads the whole file.
-#[tactic(auto, unfolding(crate::specs::Reading::file_layout, crate::specs::Reading::layout_after))]
+#[tactic(auto, unfolding(crate::specs::Reading::file_layout))]
 fn read_file(file: &ModelFile) -> Result<FileLayout, WrongWord>
     ensures { let f = file.now in result ≡ file_layout f.words.now f.constants f.columns }
 {
-    let shared = file.read_parts(Cursor::START, PartKind::Shared, SHARED_LIMIT)?;
-    let kind = PartKind::Row {
-        shared: shared.count,
-    };
-    let rows = file.read_parts(shared.end, kind, SHARED_LIMIT)?;
-    file.read_end(rows.end, shared.count)?;
+    let FileParts { shared, rows } = file.read(SHARED_LIMIT)?;
     Ok(FileLayout {
         shared: shared.count,
         rows: rows.count,
@@ -43,7 +39,7 @@ fn read_file(file: &ModelFile) -> Result<FileLayout, WrongWord>
 }
 
 // How many shared parts and rows a file has.
-#[derive(Clone, Copy, Debug, PartialEq, Eq)]
+#[derive(Clone, Copy, Debug, Default, PartialEq, Eq)]
 pub struct Counts {
     pub shared: usize,
     pub rows: usize,

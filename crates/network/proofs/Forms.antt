@@ -7,21 +7,26 @@ use native.Mathlib.Omega.{arith}
 use lib.Dec.{eqb}
 use lib.ListN.{length, get_or}
 use lib.Ieee.{Float}
+use Rattle.std.specs.Float.Ieee.{lt}
+use Rattle.float.specs.Number.{zero64}
 use borrow.Author.Tests.{eqb-true}
+use Rattle.std.specs.Prelude.{Option}
+use Rattle.std.specs.Bool.{then_some}
 use Rattle.base.proofs.Firsts.{Clear, or_left, or_right, unless_true}
 use Rattle.base.specs.Fault.{Fault}
 use Rattle.base.specs.Fault.{clear}
 use Rattle.float.specs.Doubles.{Doubles}
 use Rattle.network.specs.Fault.{fault_words, fault_size, fault_count, words_fault, form_fault}
 use Rattle.network.specs.Limits.{generator_numbers, point_numbers, branch_numbers, most_points}
-use Rattle.network.specs.Network.{generators, generator_place, branch_place, reference_place, points, referred, branch_at, needed}
+use Rattle.network.specs.Network.{buses, generators, branches, references, generator_place, branch_place, reference_place, points, referred, branch_at, needed, rated, epigraph_column}
 use Rattle.network.specs.Word.{generator_bus, generator_bounded, generator_points, branch_from, branch_to, branch_angled, branch_limited, reference_bus}
 use Rattle.network.specs.declared.layout.Layout.{Layout}
 use Rattle.network.specs.declared.records.Generator.{Generator}
 use Rattle.network.specs.declared.records.Branch.{Branch}
 use Rattle.network.specs.declared.layout.Cursor.{Cursor}
+use Rattle.network.specs.declared.sizes.Sizes.{Sizes}
 use Rattle.network.specs.Layout.{layout_of, branch_at_place, branch_record, LaidWords, Laid}
-use Rattle.network.specs.internal.Records.{generator_at_place, generator_record, Standing, GeneratorRead, BranchRead}
+use Rattle.network.specs.internal.Records.{SizesOf, generator_at_place, generator_record, Standing, GeneratorRead, BranchRead}
 use Rattle.network.proofs.Places.{words_length, bus_of_generator, no_single_point, from_bus, to_bus, referred_bus, limits}
 use Rattle.network.proofs.Numbers.{generator_zero, generator_next, generator_start, generator_high, generator_fits}
 
@@ -55,6 +60,13 @@ module _ (ws : List ℕ) where
   pub laid_words : Clear (fault_words ws) → Clear (fault_size ws) → {l : Layout} → l ≡ layout_of ws → LaidWords ws l
   laid_words w s e = rw e (laid_words_of w s)
 
+-- words that 1 does not refuse, with their sizes
+pub sized_words : {ws : List ℕ} {s : Sizes} → Clear (fault_words ws)
+    → (s.buses ≡ buses ws) × (s.generators ≡ generators ws) × (s.branches ≡ branches ws) × (s.references ≡ references ws)
+    → Clear (fault_words ws) × SizesOf ws s × (length ws ≡ 1 + s.buses + s.generators + s.branches + s.references)
+sized_words {ws} {s} right (n, k, m, r) =
+    (right, record { buses = n; generators = k; branches = m; references = r }, omega (arith, words_length ws right, n, k, m, r))
+
 module _ (ws : List ℕ) (xs : List Float) where
   laid_count : LaidWords ws (layout_of ws) → length xs ≡ needed ws → Doubles xs → Laid ws xs (layout_of ws)
   unfolding needed branch_at
@@ -75,7 +87,7 @@ module _ (ws : List ℕ) (xs : List Float) where
 
 -- ---- the answers of the checks
 
-clear_number : {f : Fault} → clear ≡ f → Clear f
+pub clear_number : {f : Fault} → clear ≡ f → Clear f
 clear_number e = ap (λ (f : Fault). f.number) (sym e)
 
 module _ {ws : List ℕ} where
@@ -104,7 +116,11 @@ module _ {ws : List ℕ} {l : Layout} (L : LaidWords ws l) where
   needed_is = rw L.is
 
   pub first_standing : {c : Cursor} → c.index ≡ 0 → c.at ≡ l.generator_numbers → Standing ws l c
-  first_standing e a = record { within = omega arith; at = a ∙ rw (L.is, e) (sym (generator_zero ws)) }
+  first_standing e a =
+      record {
+        within = omega arith;
+        at = a ∙ rw (L.is, e) (sym (generator_zero ws));
+      }
 
   -- the word of generator g, of branch b
   pub generator_word : (g : ℕ) → l.generator_words + g ≡ generator_place ws g
@@ -131,10 +147,7 @@ module _ {ws : List ℕ} {l : Layout} (L : LaidWords ws l) where
       → d.index ≡ c.index + 1 → d.at ≡ c.at + generator_numbers + point_numbers * p → Standing ws l d
   next_standing {c} {d} {p} S h q e a =
       let r : p ≡ points ws c.index = rw (generator_word c.index) at q in
-      record {
-        within = omega arith;
-        at = a ∙ rw (e, generator_next ws c.index, ← r, S.at);
-      }
+      record { within = omega arith; at = a ∙ rw (e, generator_next ws c.index, ← r, S.at) }
 
 -- ---- records, in the code's terms
 
@@ -146,12 +159,13 @@ module _ {ws : List ℕ} {xs : List Float} {l : Layout} (L : Laid ws xs l) where
       let r : p ≡ points ws c.index = rw (generator_word L.words c.index) at q in
       rw (S.at, r) (L.generator_fits c.index h, L.words.few_points c.index h)
 
-  pub generator_read : {c : Cursor} {bus p : ℕ} {bounded on : Bool} {r : Generator} → Standing ws l c → c.index < l.generators
+  pub generator_read : {c : Cursor} {bus p : ℕ} {bounded on : Bool} {epigraph : Option ℕ} {column : ℕ} {r : Generator} → Standing ws l c → column ≡ epigraph_column ws c.index
+      → c.index < l.generators
       → bus ≡ generator_bus (get_or ws (l.generator_words + c.index) 0) → bounded ≡ generator_bounded (get_or ws (l.generator_words + c.index) 0)
       → p ≡ generator_points (get_or ws (l.generator_words + c.index) 0) → on ≡ (l.costs && not (eqb p 0))
-      → r ≡ generator_at_place xs c.at bus bounded p on → GeneratorRead ws xs l c.index r
-  generator_read {c} {bus} {p} {bounded} {on} {r} S h eb ed ep eo er =
-      let e : r ≡ generator_record ws xs c.index = er ∙ rw (eo, ep, ed, eb, generator_word L.words c.index, S.at, ap (λ x. x.costs) L.words.is) in
+      → epigraph ≡ then_some on column → r ≡ generator_at_place xs c.at bus bounded p epigraph → GeneratorRead ws xs l c.index r
+  generator_read {c} {bus} {p} {bounded} {on} {epigraph} {column} {r} S C h eb ed ep eo ee er =
+      let e : r ≡ generator_record ws xs c.index = er ∙ rw (ee, eo, ep, ed, eb, generator_word L.words c.index, S.at, C, ap (λ x. x.costs) L.words.is) in
       rw e (record {
         is = refl;
         bus = L.words.generator_bus_is c.index h;
@@ -166,3 +180,7 @@ module _ {ws : List ℕ} {xs : List Float} {l : Layout} (L : Laid ws xs l) where
   branch_read {b} {at} {f} {t} {angled} {limited} {r} h ea ef et ed el er =
       let e : r ≡ branch_record ws xs b = er ∙ rw (ea, ef, et, ed, el, branch_word L.words b) in
       rw e (record { is = refl; from = L.words.branch_from_is b h; to = L.words.branch_to_is b h })
+
+-- whether the branch has thermal rows
+pub rated_is : {ws : List ℕ} {xs : List Float} {l : Layout} {b : ℕ} {r : Branch} → BranchRead ws xs l b r → (r.limited && lt zero64 r.s_max) ≡ rated ws xs b
+rated_is B = rw B.is

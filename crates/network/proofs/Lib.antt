@@ -1,3 +1,4 @@
+pub mod Epigraphs
 pub mod Places
 pub mod Numbers
 pub mod Steps

@@ -1,19 +1,22 @@
 -- One turn of each loop over the words, in the code's terms: n, k and m for the counts, `at` and `start` for places of numbers.
 use mathlib.Core.Path.{◌≡◌, refl}
-use mathlib.Core.Bool.{cond}
+use mathlib.Core.Bool.{Bool, true, false, not, cond}
 use mathlib.Core.List.{List}
 use Prim.Native.Nat.{ℕ, suc, ◌+◌, ◌*◌, ◌≤◌, ◌<◌}
 use lib.Dec.{eqb}
-use lib.ListN.{get_or}
+use lib.ListN.{length, get_or}
 use native.Mathlib.Omega.{arith}
 use native.Mathlib.Numerals.{add-one}
 use borrow.Author.Tests.{le-leb, lt-leb}
-use Rattle.base.specs.Fault.{fault, unless, or_else}
-use Rattle.network.specs.Fault.{fault_size}
+use Rattle.base.specs.Fault.{Fault}
+use Rattle.base.specs.Fault.{fault, unless, or_else, first}
+use Rattle.network.specs.Fault.{fault_words, fault_size, word_right}
 use Rattle.base.specs.Loop.{loop, tally}
 use Rattle.base.specs.Word.{kind_of}
 use Rattle.network.specs.Word.{generator_points}
 use Rattle.network.specs.Network.{kind_before, buses, generators, branch_place, generator_at, branch_at}
+use Rattle.std.specs.Int.{from_bool}
+use Rattle.network.proofs.Epigraphs.{bit_few}
 use Rattle.network.proofs.Numbers.{generator_next, generator_fits}
 
 pub kind_next : (ws : List ℕ) (kind i : ℕ) → kind_before ws kind (suc i) ≡ cond (eqb (kind_of (get_or ws i 0)) kind) (suc (kind_before ws kind i)) (kind_before ws kind i)
@@ -38,9 +41,38 @@ pub held_none : (ws : List ℕ) (kind : ℕ) → Held ws kind 0 0
 unfolding kind_before tally loop
 held_none ws kind = record { few = omega arith; is = refl }
 
-pub held_next : {ws : List ℕ} {kind i count more : ℕ} → Held ws kind i count
-    → (more ≡ cond (eqb (kind_of (get_or ws i 0)) kind) (suc count) count) × (more ≤ count + 1) → Held ws kind (i + 1) more
-held_next H (e, f) = record { few = omega (arith, H.few); is = rw (add-one, kind_next, ← H.is, e) }
+-- one more where the next word has the kind
+pub held_next : {ws : List ℕ} {kind i count k n more : ℕ} → Held ws kind i count → k ≡ kind_of (get_or ws i 0) → n ≡ kind → more ≡ from_bool (eqb k n)
+    → Held ws kind (i + 1) (count + more)
+held_next {ws} {kind} {i} {count} H e f g =
+    let t = eqb (kind_of (get_or ws i 0)) kind in
+    rw (g, e, f) (record { few = omega (arith, H.few, bit_few t refl); is = rw (add-one, kind_next, ← H.is) (turn t) })
+  where
+    turn : (b : Bool) → count + from_bool b ≡ cond b (suc count) count
+    turn true = omega arith
+    turn false = omega arith
+
+-- the four counts after a word of kind k
+pub counts_next : {ws : List ℕ} {i b g m r : ℕ} (k : ℕ) → Held ws 2 i b × Held ws 3 i g × Held ws 4 i m × Held ws 5 i r → k ≡ kind_of (get_or ws i 0)
+    → Held ws 2 (i + 1) (cond (eqb k 2) (b + 1) b) × Held ws 3 (i + 1) (cond (eqb k 3) (g + 1) g)
+    × Held ws 4 (i + 1) (cond (eqb k 4) (m + 1) m) × Held ws 5 (i + 1) (cond (eqb k 5) (r + 1) r)
+counts_next {ws} {i} k (hb, hg, hm, hr) e = (more 2 hb, more 3 hg, more 4 hm, more 5 hr)
+  where
+    turn : (kind count : ℕ) (b : Bool) → Held ws kind (i + 1) (count + from_bool b) → Held ws kind (i + 1) (cond b (count + 1) count)
+    turn kind count true h = h
+    turn kind count false h = record { few = omega (arith, h.few); is = omega (arith, h.is) }
+
+    more : (kind : ℕ) {count : ℕ} → Held ws kind i count → Held ws kind (i + 1) (cond (eqb k kind) (count + 1) count)
+    more kind {count} h = turn kind count (eqb k kind) (held_next h e refl refl)
+
+-- 1 is a chain of two
+pub words_chain : (ws : List ℕ) → fault_words ws ≡ or_else (unless (not (eqb (length ws) 0)) (fault 1 0)) (first (length ws) (λ i. unless (word_right ws i) (fault 1 i)))
+unfolding fault_words unless or_else
+words_chain ws = go (eqb (length ws) 0) (first (length ws) (λ i. unless (word_right ws i) (fault 1 i)))
+  where
+    go : (b : Bool) (later : Fault) → cond b (fault 1 0) later ≡ or_else (unless (not b) (fault 1 0)) later
+    go true later = refl
+    go false later = refl
 
 -- ---- places
 

@@ -1,9 +1,7 @@
 -- Document 01, "The network file": where the words and numbers of each kind stand, a branch by value, and what a network has that
 -- refusals 1 to 3 do not refuse.
-use Rattle.std.specs.Prelude.{ℕ, ◌+◌, ◌*◌, ◌≤◌, ◌<◌, ◌≡◌, Bool, ◌&&◌, List, length, Float}
-use Rattle.std.specs.Float.Ieee.{lt}
+use Rattle.std.specs.Prelude.{ℕ, ◌+◌, ◌*◌, ◌≤◌, ◌<◌, ◌≡◌, Bool, List, length, Float}
 use Rattle.float.specs.Doubles.{Doubles}
-use Rattle.float.specs.Number.{zero64}
 use Rattle.network.specs.declared.layout.Layout.{Layout}
 use Rattle.network.specs.declared.records.Branch.{Branch}
 use Rattle.network.specs.Limits.{bus_numbers, generator_numbers, point_numbers, branch_numbers, most_buses}
@@ -36,7 +34,6 @@ branch_at_place xs at from to angled limited = record {
   to = to;
   angled = angled;
   limited = limited;
-  rated = limited && lt zero64 (number xs (at + 10));
   g = number xs at;
   b = number xs (at + 1);
   g_fr = number xs (at + 2);

@@ -1,11 +1,12 @@
-// Where the words and numbers of each kind stand in a network file. No other file knows how many numbers a record has.
+// Where the words and numbers of each kind stand in a network file, and how many numbers a record has: form.rt and records.rt, and the crate
+// tables for a generator's and its curve's, find a record's place by that.
 ghost use Rattle.std.specs.Prelude.{◌≡◌, ◌+◌, ◌*◌, ◌<◌, ◌≤◌};
 ghost use Rattle.network.specs.Limits.{generator_numbers, point_numbers, most_buses, most_generators, most_branches};
-ghost use Rattle.network.specs.Network.{buses, generators, branches, references, generator_at, needed};
+ghost use Rattle.network.specs.Network.{generator_at};
 ghost use Rattle.network.specs.Fault.{fault_words, fault_size};
-ghost use Rattle.network.specs.Layout.{layout_from, layout_of, LaidWords};
+ghost use Rattle.network.specs.Layout.{layout_from, layout_of};
 
-use crate::sizes::Sizes;
+use crate::sizes::{SizedWords, Sizes, sizes_of};
 use crate::word::{generator_points, header_costs};
 
 // The numbers of a record: of a bus, of a generator before its curve, of a point of a curve, of a branch.
@@ -30,6 +31,7 @@ pub const MOST_POINTS: usize = 9;
 
 // The counts, the place of the first word and of the first number of each kind (the buses' words start at 1, their numbers at 0), and the
 // header's flag.
+// Columns and rows are counted from the counts by the sums that the definitions say (`vm_column`, ..), each named by the local that holds it.
 #[derive(Clone, Copy, Debug, PartialEq, Eq)]
 pub struct Layout {
     pub buses: usize,
@@ -59,20 +61,6 @@ pub(crate) fn record_end(at: usize, points: usize) -> usize
     at + GENERATOR_NUMBERS + POINT_NUMBERS * points
 }
 
-// Where the generators' numbers end and the branches' start.
-pub(crate) fn generators_end(words: &[u32], n: usize, k: usize) -> usize
-    requires { (n ≡ buses words.now) × (k ≡ generators words.now)
-        × ((fault_words words.now).number ≡ 0) × ((fault_size words.now).number ≡ 0) }
-    ensures { result ≡ generator_at words.now k }
-{
-    let mut at = BUS_NUMBERS * n;
-    for g in 0..k {
-        let points = generator_points(words[1 + n + g]);
-        at = record_end(at, points);
-    }
-    at
-}
-
 fn layout_from(sizes: Sizes, branch_numbers: usize, costs: bool) -> Layout
     requires { (sizes.buses ≤ most_buses) × (sizes.generators ≤ most_generators) × (sizes.branches ≤ most_branches) }
     ensures { result ≡ layout_from sizes.buses sizes.generators sizes.branches sizes.references
@@ -95,21 +83,42 @@ fn layout_from(sizes: Sizes, branch_numbers: usize, costs: bool) -> Layout
     }
 }
 
-// Of words that refusals 1 and 2 do not refuse, with their sizes at hand.
-pub(crate) fn layout_with(words: &[u32], sizes: Sizes) -> Layout
-    requires { (sizes.buses ≡ buses words.now) × (sizes.generators ≡ generators words.now)
-        × (sizes.branches ≡ branches words.now) × (sizes.references ≡ references words.now)
-        × ((fault_words words.now).number ≡ 0) × ((fault_size words.now).number ≡ 0) }
-    ensures { result ≡ layout_of words.now }
-{
-    let end = generators_end(words, sizes.buses, sizes.generators);
-    layout_from(sizes, end, header_costs(words[0]))
+impl SizedWords<'_> {
+    // Where the generators' numbers end and the branches' start.
+    fn generators_end(&self) -> usize
+        requires { (fault_size self.now.words.now).number ≡ 0 }
+        ensures { result ≡ generator_at self.now.words.now self.now.sizes.generators }
+    {
+        let n = self.sizes.buses;
+        let mut at = BUS_NUMBERS * n;
+        for g in 0..self.sizes.generators {
+            let points = generator_points(self.words[1 + n + g]);
+            at = record_end(at, points);
+        }
+        at
+    }
+
+    // Of words that 2 does not refuse either.
+    pub(crate) fn layout(&self) -> Layout
+        requires { (fault_size self.now.words.now).number ≡ 0 }
+        ensures { result ≡ layout_of self.now.words.now }
+    {
+        layout_from(
+            self.sizes,
+            self.generators_end(),
+            header_costs(self.words[0]),
+        )
+    }
 }
 
-// How many numbers the words ask for.
-pub(crate) fn numbers_needed(words: &[u32], layout: Layout) -> usize
-    requires { LaidWords words.now layout }
-    ensures { result ≡ needed words.now }
+// Of words that refusals 1 and 2 do not refuse.
+pub fn layout_of(words: &[u32]) -> Layout
+    requires { ((fault_words words.now).number ≡ 0) × ((fault_size words.now).number ≡ 0) }
+    ensures { result ≡ layout_of words.now }
 {
-    layout.branch_numbers + BRANCH_NUMBERS * layout.branches
+    let sized = SizedWords {
+        words,
+        sizes: sizes_of(words),
+    };
+    sized.layout()
 }

@@ -1,11 +1,13 @@
 // The records of buses, generators and branches by value.
-ghost use Rattle.std.specs.Prelude.{◌≡◌, ◌+◌, ◌≤◌, length};
+ghost use Rattle.std.specs.Prelude.{◌≡◌, ◌+◌, ◌<◌, ◌≤◌, length};
 ghost use Rattle.network.specs.Limits.{bus_numbers, generator_numbers, branch_numbers};
 ghost use Rattle.network.specs.Layout.{branch_at_place};
 ghost use Rattle.network.specs.internal.Records.{bus_at_place, generator_at_place};
 
 use crate::layout::GENERATOR_NUMBERS;
 
+// A flag stands beside its numbers, here and in `Generator` and `Branch`, as in the Rust's tables (`voltage_bound_active`,
+// `capability_active`, `angle_bound_active`, `thermal_limit_active`): the definitions read each number whether its flag is set or not.
 #[derive(Clone, Copy, Debug)]
 pub struct Bus {
     pub bounded: bool,
@@ -19,13 +21,14 @@ pub struct Bus {
     pub vm: f64,
 }
 
-// `curve` is the place of the curve's first number; `curved`: it has an epigraph column.
+// `curve` is the place of the curve's first number, of as many `points` as its word says, 0 for none (a loop over no points does nothing, so an
+// Option is no plainer); `epigraph` is the number of its epigraph column, where it has one.
 #[derive(Clone, Copy, Debug)]
 pub struct Generator {
     pub bus: usize,
     pub bounded: bool,
     pub points: usize,
-    pub curved: bool,
+    pub epigraph: Option<usize>,
     pub curve: usize,
     pub p_min: f64,
     pub p_max: f64,
@@ -38,14 +41,23 @@ pub struct Generator {
     pub qg: f64,
 }
 
-// `rated`: it has thermal rows.
+impl Generator {
+    ghost use Rattle.std.specs.Prelude.{◌≡◌, is_some};
+
+    // Whether it has an epigraph column.
+    pub fn curved(&self) -> bool
+        ensures { result ≡ is_some self.now.epigraph }
+    {
+        self.epigraph.is_some()
+    }
+}
+
 #[derive(Clone, Copy, Debug)]
 pub struct Branch {
     pub from: usize,
     pub to: usize,
     pub angled: bool,
     pub limited: bool,
-    pub rated: bool,
     pub g: f64,
     pub b: f64,
     pub g_fr: f64,
@@ -57,6 +69,20 @@ pub struct Branch {
     pub angle_min: f64,
     pub angle_max: f64,
     pub s_max: f64,
+}
+
+impl Branch {
+    ghost use Rattle.std.specs.Prelude.{◌≡◌, ◌&&◌};
+    ghost use Rattle.std.specs.Float.Ieee.{lt};
+    ghost use Rattle.float.specs.Number.{zero64};
+
+    // Whether it has thermal rows.
+    pub fn rated(&self) -> bool
+        ensures { result ≡ (self.now.limited && lt zero64 self.now.s_max) }
+    {
+        let above = 0.0 < self.s_max;
+        self.limited & above
+    }
 }
 
 // A bus, by what its word says and the place of its first number.
@@ -84,16 +110,16 @@ pub(crate) fn generator_at(
     bus: usize,
     bounded: bool,
     points: usize,
-    curved: bool,
+    epigraph: Option<usize>,
 ) -> Generator
     requires { at + generator_numbers ≤ length numbers.now }
-    ensures { result ≡ generator_at_place numbers.now at bus bounded points curved }
+    ensures { result ≡ generator_at_place numbers.now at bus bounded points epigraph }
 {
     Generator {
         bus,
         bounded,
         points,
-        curved,
+        epigraph,
         curve: at + GENERATOR_NUMBERS,
         p_min: numbers[at],
         p_max: numbers[at + 1],
@@ -119,14 +145,11 @@ pub(crate) fn branch_at(
     requires { at + branch_numbers ≤ length numbers.now }
     ensures { result ≡ branch_at_place numbers.now at from to angled limited }
 {
-    let s_max = numbers[at + 10];
-    let above = 0.0 < s_max;
     Branch {
         from,
         to,
         angled,
         limited,
-        rated: limited & above,
         g: numbers[at],
         b: numbers[at + 1],
         g_fr: numbers[at + 2],
@@ -137,6 +160,6 @@ pub(crate) fn branch_at(
         shift: numbers[at + 7],
         angle_min: numbers[at + 8],
         angle_max: numbers[at + 9],
-        s_max,
+        s_max: numbers[at + 10],
     }
 }

@@ -1,10 +1,10 @@
 // How many words of each kind there are.
-ghost use Rattle.std.specs.Prelude.{◌≡◌, cond, suc, ◌+◌, ◌<◌, ◌≤◌, eqb};
-ghost use Rattle.base.specs.Word.{kind_of};
+ghost use Rattle.std.specs.Prelude.{◌≡◌, ◌+◌, length};
+ghost use Rattle.network.specs.Fault.{fault_words};
 ghost use Rattle.network.specs.Network.{buses, generators, branches, references};
-ghost use Rattle.network.specs.Kinds.{kind_number};
+ghost use Rattle.network.specs.internal.Records.{SizesOf};
 
-use crate::word::Kind;
+use crate::word::{Kind, UnknownKind};
 
 #[derive(Clone, Copy, Debug, PartialEq, Eq)]
 pub struct Sizes {
@@ -14,15 +14,14 @@ pub struct Sizes {
     pub references: usize,
 }
 
-// The count with w, where w has the kind.
-pub(crate) fn counted(count: usize, w: u32, kind: Kind) -> usize
-    requires { count < 0xffff_ffff_ffff_ffff }
-    ensures { (result ≡ cond (eqb (kind_of w) (kind_number kind)) (suc count) count) × (result ≤ count + 1) }
-{
-    if base::kind_of(w) == kind.number() {
-        return count + 1;
-    }
-    count
+// Words that 1 does not refuse, with how many of each kind there are.
+#[derive(Clone, Copy)]
+pub(crate) struct SizedWords<'a> {
+    pub words: &'a [u32],
+    pub sizes: Sizes,
+    pub ghost right: { (fault_words words.now).number ≡ 0 },
+    pub ghost sized: { SizesOf words.now sizes },
+    pub ghost long: { length words.now ≡ 1 + sizes.buses + sizes.generators + sizes.branches + sizes.references },
 }
 
 // One pass for the four kinds.
@@ -35,10 +34,14 @@ pub fn sizes_of(words: &[u32]) -> Sizes
     let mut branches = 0usize;
     let mut references = 0usize;
     for w in words {
-        buses = counted(buses, *w, Kind::Bus);
-        generators = counted(generators, *w, Kind::Generator);
-        branches = counted(branches, *w, Kind::Branch);
-        references = counted(references, *w, Kind::Reference);
+        match Kind::try_from(base::kind_of(*w)) {
+            Ok(Kind::Bus) => buses += 1,
+            Ok(Kind::Generator) => generators += 1,
+            Ok(Kind::Branch) => branches += 1,
+            Ok(Kind::Reference) => references += 1,
+            Ok(Kind::Header) => (),
+            Err(UnknownKind) => (),
+        }
     }
     Sizes {
         buses,

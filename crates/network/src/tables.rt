@@ -1,14 +1,14 @@
 // A network's tables: the two lists with their layout, and their records by name.
 ghost use Rattle.network.specs.Layout.{Laid};
 
-use crate::layout::{BRANCH_NUMBERS, BUS_NUMBERS, Cursor, Layout};
+use crate::form::Form;
+use crate::layout::Layout;
 use crate::records::{Branch, Bus, branch_at, bus_at};
 use crate::walk::Generators;
-use crate::word::{
-    branch_angled, branch_from, branch_limited, branch_to, bus_bounded, reference_bus,
-};
+use crate::word::{branch_angled, branch_from, branch_limited, branch_to, bus_bounded};
 
-// Words and numbers that 1 to 3 do not refuse, and where the records stand in them.
+// Words and numbers that 1 to 3 do not refuse, and where the records stand in them. The words and layout stand here and not in a `Form`, since
+// they are read everywhere as `tables.words` and `tables.layout`: that form is no plainer.
 #[derive(Clone, Copy)]
 pub struct Tables<'a> {
     pub words: &'a [u32],
@@ -23,12 +23,22 @@ impl<'a> Tables<'a> {
     ghost use Rattle.network.specs.Network.{referred, bus_at, branch_at};
     ghost use Rattle.network.specs.internal.Records.{bus_record, BranchRead};
 
+    // The words with their layout.
+    pub fn form(&self) -> Form<'a>
+        ensures { (result.words.now ≡ self.now.words.now) × (result.layout ≡ self.now.layout) }
+    {
+        Form {
+            words: self.words,
+            layout: self.layout,
+        }
+    }
+
     pub fn bus(&self, i: usize) -> Bus
         requires { i < self.now.layout.buses }
         ensures { result ≡ bus_record self.now.words.now self.now.numbers.now i }
     {
         let bounded = bus_bounded(self.words[1 + i]);
-        bus_at(self.numbers, BUS_NUMBERS * i, bounded)
+        bus_at(self.numbers, self.bus_start(i), bounded)
     }
 
     // The place of the bus's first number.
@@ -36,7 +46,7 @@ impl<'a> Tables<'a> {
         requires { i < self.now.layout.buses }
         ensures { (result ≡ bus_at self.now.words.now i) × (result + bus_numbers ≤ length self.now.numbers.now) }
     {
-        BUS_NUMBERS * i
+        self.form().bus_start(i)
     }
 
     pub fn branch(&self, b: usize) -> Branch
@@ -61,7 +71,7 @@ impl<'a> Tables<'a> {
         requires { b < self.now.layout.branches }
         ensures { (result ≡ branch_at self.now.words.now b) × (result + branch_numbers ≤ length self.now.numbers.now) }
     {
-        self.layout.branch_numbers + BRANCH_NUMBERS * b
+        self.form().branch_start(b)
     }
 
     // The bus of reference r.
@@ -69,21 +79,17 @@ impl<'a> Tables<'a> {
         requires { r < self.now.layout.references }
         ensures { (result ≡ referred self.now.words.now r) × (result < self.now.layout.buses) }
     {
-        let first = self.layout.reference_words;
-        reference_bus(self.words[first + r])
+        self.form().reference(r)
     }
 
     // The generators with their numbers, in order.
     pub fn generators(&self) -> Generators<'a>
         ensures { (result.tables ≡ self.now) × (result.cursor.index ≡ 0) }
     {
-        let cursor = Cursor {
-            index: 0,
-            at: self.layout.generator_numbers,
-        };
         Generators {
             tables: *self,
-            cursor,
+            cursor: self.form().first_generator(),
+            epigraph: 2 * self.layout.buses + 2 * self.layout.generators,
         }
     }
 }

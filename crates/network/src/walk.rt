@@ -1,23 +1,26 @@
 // The generators of a network, one after the other: where the numbers of one start hangs on the curves of those before it.
 ghost use Rattle.std.specs.Prelude.{◌≡◌, ◌-◌};
 ghost use Rattle.std.specs.Iterator.{at_most};
+ghost use Rattle.network.specs.Network.{epigraph_column};
 ghost use Rattle.network.specs.internal.Records.{Standing, GeneratorStep};
 
-use crate::layout::{Cursor, record_end};
+use crate::layout::Cursor;
 use crate::records::{Generator, generator_at};
 use crate::tables::Tables;
 use crate::word::{generator_bounded, generator_bus, generator_points};
 
-// The generators from the one at the cursor on.
+// The generators from the one at the cursor on, with the column of the next epigraph: that one's own, where it has one.
 #[derive(Clone, Copy)]
 pub struct Generators<'a> {
     pub tables: Tables<'a>,
     pub cursor: Cursor,
+    pub epigraph: usize,
     pub ghost standing: { Standing tables.words.now tables.layout cursor },
+    pub ghost counted: { epigraph ≡ epigraph_column tables.words.now cursor.index },
 }
 
 impl Generators<'_> {
-    ghost use Rattle.std.specs.Prelude.{◌≡◌, ◌+◌, ◌<◌};
+    ghost use Rattle.std.specs.Prelude.{◌<◌};
     ghost use Rattle.network.specs.internal.Records.{GeneratorRead};
 
     // The generator at the cursor.
@@ -28,35 +31,27 @@ impl Generators<'_> {
         let first = self.tables.layout.generator_words;
         let w = self.tables.words[first + self.cursor.index];
         let points = generator_points(w);
-        let some = points != 0;
         generator_at(
             self.tables.numbers,
             self.cursor.at,
             generator_bus(w),
             generator_bounded(w),
             points,
-            self.tables.layout.costs & some,
+            self.tables
+                .form()
+                .has_epigraph(points)
+                .then_some(self.epigraph),
         )
-    }
-
-    // The cursor behind that generator's numbers.
-    fn behind(&self) -> Cursor
-        requires { self.now.cursor.index < self.now.tables.layout.generators }
-        ensures { (Standing self.now.tables.words.now self.now.tables.layout result) × (result.index ≡ self.now.cursor.index + 1) }
-    {
-        let first = self.tables.layout.generator_words;
-        let points = generator_points(self.tables.words[first + self.cursor.index]);
-        Cursor {
-            index: self.cursor.index + 1,
-            at: record_end(self.cursor.at, points),
-        }
     }
 }
 
 impl<'a> Iterator for Generators<'a> {
+    // With its number, since the contract of each loop over generators speaks of the number.
     type Item = (usize, Generator);
 
-    ghost next_gives = { λ s r t. GeneratorStep s.tables.words.now s.tables.numbers.now s.tables.layout s.cursor.index r t.cursor.index × (t.tables ≡ s.tables) };
+    ghost next_gives = { λ s r t.
+        GeneratorStep s.tables.words.now s.tables.numbers.now s.tables.layout s.cursor.index r t.cursor.index
+        × (t.tables ≡ s.tables) };
 
     ghost remaining = { λ s. at_most (s.tables.layout.generators - s.cursor.index) };
 
@@ -64,7 +59,11 @@ impl<'a> Iterator for Generators<'a> {
         let index = self.cursor.index;
         if index < self.tables.layout.generators {
             let generator = self.here();
-            self.cursor = self.behind();
+            *self = Generators {
+                tables: self.tables,
+                cursor: self.tables.form().next_generator(self.cursor),
+                epigraph: self.epigraph + usize::from(generator.curved()),
+            };
             return Some((index, generator));
         }
         None

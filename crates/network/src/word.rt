@@ -1,5 +1,5 @@
 // The fields of a network word, by shifts and masks, and whether its load is right.
-ghost use Rattle.std.specs.Prelude.{◌≡◌, ◌⊎◌, ◌↔◌, ◌<◌, ◌≤◌, IsNone, IfSome};
+ghost use Rattle.std.specs.Prelude.{◌≡◌, ◌⊎◌, ◌<◌, ◌≤◌, MatchResult};
 ghost use Rattle.network.specs.Kinds.{kind_number};
 ghost use Rattle.base.specs.Word.{field, flag};
 ghost use Rattle.network.specs.Word.{header_costs, bus_bounded, generator_bus, generator_bounded, generator_points};
@@ -22,19 +22,25 @@ impl Kind {
     {
         self as u32 + 1
     }
+}
 
-    // The kind that has the number; 0 and those from 6 on are no kind's.
-    pub fn with_number(number: u32) -> Option<Kind>
-        ensures none { IsNone result ↔ ((number ≡ 0) ⊎ (6 ≤ number)) }
-        ensures some { IfSome result (λ kind. kind_number kind ≡ number) }
-    {
+// That a number is no kind's of a network's words: 0 and those from 6 on.
+#[derive(Clone, Copy, Debug, PartialEq, Eq)]
+pub struct UnknownKind;
+
+impl TryFrom<u32> for Kind {
+    type Error = UnknownKind;
+
+    ghost try_from_gives = { λ number result. MatchResult result (λ kind. kind_number kind ≡ number) (λ _. (number ≡ 0) ⊎ (6 ≤ number)) };
+
+    fn try_from(number: u32) -> Result<Kind, UnknownKind> {
         match number {
-            1 => Some(Kind::Header),
-            2 => Some(Kind::Bus),
-            3 => Some(Kind::Generator),
-            4 => Some(Kind::Branch),
-            5 => Some(Kind::Reference),
-            _ => None,
+            1 => Ok(Kind::Header),
+            2 => Ok(Kind::Bus),
+            3 => Ok(Kind::Generator),
+            4 => Ok(Kind::Branch),
+            5 => Ok(Kind::Reference),
+            _ => Err(UnknownKind),
         }
     }
 }
@@ -124,26 +130,26 @@ pub fn load_right(before: usize, w: u32) -> bool
     ensures { result ≡ load_right before w }
 {
     let load = base::load_of(w);
-    match Kind::with_number(base::kind_of(w)) {
-        Some(Kind::Header) => load < 0x2,
-        Some(Kind::Bus) => load < 0x2,
-        Some(Kind::Generator) => {
+    match Kind::try_from(base::kind_of(w)) {
+        Ok(Kind::Header) => load < 0x2,
+        Ok(Kind::Bus) => load < 0x2,
+        Ok(Kind::Generator) => {
             let named = load < 0x4_0000;
             let there = generator_bus(w) < before;
             let curve = generator_points(w) != 1;
             named & there & curve
         }
-        Some(Kind::Branch) => {
+        Ok(Kind::Branch) => {
             let named = load < 0x400_0000;
             let from = branch_from(w) < before;
             let to = branch_to(w) < before;
             named & from & to
         }
-        Some(Kind::Reference) => {
+        Ok(Kind::Reference) => {
             let named = load < 0x1000;
             let there = reference_bus(w) < before;
             named & there
         }
-        None => false,
+        Err(UnknownKind) => false,
     }
 }

@@ -17,8 +17,8 @@ use Rattle.nl.specs.declared.reader.Parts.{Parts}
 use Rattle.nl.specs.declared.reader.Span.{Span}
 use Rattle.nl.specs.declared.reader.Cursor.{Cursor}
 use Rattle.nl.specs.File.{depth_limit}
-use Rattle.nl.specs.Reader.{Read, wrong, went, stop, span, word_ok, arity, uses, after, many, read_expr, is_mark, read_parts, read_last, read_end}
-use Rattle.nl.specs.Finder.{found, refused, find_after, find}
+use Rattle.nl.specs.Reader.{Read, wrong, went, stop, span, word_ok, arity, uses, after, many, read_expr, is_mark, read_parts, read_last, read_end, read_after, read_file}
+use Rattle.nl.specs.Finder.{found, refused, find}
 use Rattle.nl.proofs.Steps.{same_place, spelled, no_depth}
 use Rattle.nl.proofs.Sound.{goes_on}
 use Rattle.nl.proofs.PartSteps.{no_more}
@@ -220,7 +220,7 @@ module _ (ws ws' : List ℕ) (q : ℕ) (le : q ≤ length ws) (le' : q ≤ lengt
   -- words that begin with the words up to a wrong word are refused at the same word
   module _ (constants columns r p : ℕ) (h : p < q) where
     by_outcome : find ws constants columns r ≡ refused reason.Model p → Outcome ws constants columns r → find ws' constants columns r ≡ refused reason.Model p
-    unfolding find find_after
+    unfolding find read_file read_after
     by_outcome e (in_shared p' a g) =
         let z : p' ≡ p = ap (λ f. (fault_of f).place) (sym g ∙ e) in
         let a' = whole_alike constants columns (λ i. i) 10 r 0 0 (wrong p') a (omega arith) in
@@ -276,7 +276,7 @@ module _ (ws : List ℕ) (constants columns r r' : ℕ) where
       go false x rec = refl
 
   other_row : (p : ℕ) → find ws constants columns r ≡ refused reason.Model p → Outcome ws constants columns r → find ws constants columns r' ≡ refused reason.Model p
-  unfolding find find_after
+  unfolding find read_file read_after
   other_row p e (in_shared p' a g) =
       let z : p' ≡ p = ap (λ f. (fault_of f).place) (sym g ∙ e) in
       let a' = plain_bad (read_parts ws constants columns (λ i. i) 10 r' (length ws) 0 0 0 None) p' (sym (any_part (λ i. i) 10 (length ws) 0 0 0 None None) ∙ ap plain a) in

@@ -5,8 +5,8 @@ use Prim.Native.Nat.{ℕ}
 use lib.Dec.{T, eqb}
 use lib.ListN.{take}
 use Rattle.base.specs.Fault.{fault_of}
-use Rattle.nl.specs.Reader.{word_ok, arity, uses, read_head, read_expr, is_mark, read_parts, read_last, read_end}
-use Rattle.nl.specs.Finder.{find_after, find, row_start, row_length}
+use Rattle.nl.specs.Reader.{word_ok, arity, uses, read_head, read_expr, is_mark, read_parts, read_last, read_end, read_after, read_file}
+use Rattle.nl.specs.Finder.{find, row_start, row_length}
 
 -- Depot M's words; it has 6 constants and 4 columns
 abbrev depot_m : List ℕ
@@ -58,5 +58,5 @@ cases =
     case nine_deep 0 1 0 17 9 0 0 ∷ case (take 9 nine_deep) 0 1 0 17 9 0 0 ∷ case (0xC0000000 ∷ 0x10000000 ∷ 0xD0000000 ∷ []) 1 1 0 17 2 0 0 ∷ case (0xC0000000 ∷ 0x10000000 ∷ []) 1 1 0 17 2 0 0 ∷ case [] 0 0 0 17 0 0 0 ∷ []
 
 all_right : T (all cases)
-unfolding all right cases row_start row_length find find_after word_ok arity uses read_head read_expr is_mark read_parts read_last read_end
+unfolding all right cases row_start row_length find read_file read_after word_ok arity uses read_head read_expr is_mark read_parts read_last read_end
 all_right = tt

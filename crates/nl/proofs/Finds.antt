@@ -13,14 +13,14 @@ use Rattle.std.specs.Prelude.{Option, Some, None, Result}
 use Rattle.base.specs.Word.{word, kind_of}
 use Rattle.nl.specs.Expr.{Expr, Terms, none, more, count, constants, constants_of, next, words}
 use Rattle.nl.specs.File.{Model, part_words, at_rows, at_objective, model_words, model_constants, Ruled, PartsRuled, depth_limit, StandsFor, join, IsRow}
-use Rattle.nl.specs.Reader.{went, stop, span, is_mark, read_parts, read_last, read_end}
+use Rattle.nl.specs.Reader.{went, stop, span, is_mark, read_parts, read_last, read_end, read_after, read_file}
 use Rattle.base.specs.Refusal.{MODEL}
 use Rattle.base.specs.declared.refusal.Refusal.{Refusal}
 use Rattle.base.specs.declared.refusal.Reason.{Reason}
 use Rattle.base.specs.declared.refusal.Reason.TheVariants as reason
 use Rattle.base.specs.Fault.{fault_of}
 use Rattle.nl.specs.declared.reader.Span.{Span}
-use Rattle.nl.specs.Finder.{found, refused, span_of, or_absent, find_after, find, row_words}
+use Rattle.nl.specs.Finder.{found, refused, span_of, or_absent, find, row_words}
 use Rattle.nl.proofs.Build.{drop_past, get_d_here}
 use Rattle.nl.proofs.Complete.{complete}
 use Rattle.nl.proofs.Sound.{some_words}
@@ -95,7 +95,7 @@ module _ (ws cs : List ℕ) (columns : ℕ) (M : Model) (S : StandsFor ws cs col
   -- the finder reads to the end, and then goes by the number of rows
   pub finds : (r : ℕ) → find ws (length cs) columns r
       ≡ or_absent (mark_in r 0 (rows_from M) (at_rows M) M.rows None) (count M.rows)
-  unfolding model_words model_constants find find_after
+  unfolding model_words model_constants find read_file read_after
   finds r =
       let a = rw (zero-add, zero-add) at (all ws cs columns (λ i. i) 10 r 0 0 M.shared _ _ S.shared_ruled (omega arith) S.its_words S.its_constants (other_shared _ M.rows _)) in
       let le : rows_from M ≤ length ws = omega (arith, ap length S.its_words, length-append (part_words 10 0 0 M.shared) (part_words 11 0 (at_rows M) M.rows ++ past_rows M)) in

@@ -19,9 +19,9 @@ use Rattle.nl.specs.declared.reader.Span.{Span}
 use Rattle.nl.specs.declared.reader.Cursor.{Cursor}
 use Rattle.nl.specs.Expr.{load_limit, Expr, Terms, none, more, count, constants, constants_of, next, words}
 use Rattle.nl.specs.File.{Model, part_words, at_objective, model_words, model_constants, Ruled, PartsRuled, depth_limit, StandsFor}
-use Rattle.nl.specs.Reader.{Read, wrong, went, stop, span, after, read_expr, is_mark, read_parts, read_last, read_end}
+use Rattle.nl.specs.Reader.{Read, wrong, went, stop, span, after, read_expr, is_mark, read_parts, read_last, read_end, read_after, read_file}
 use Rattle.base.specs.Refusal.{MODEL}
-use Rattle.nl.specs.Finder.{refused, or_absent, find_after, find}
+use Rattle.nl.specs.Finder.{refused, or_absent, find}
 use Rattle.nl.proofs.Sound.{went_cond, went_after, sound}
 use Rattle.nl.proofs.PartSteps.{marked}
 
@@ -119,18 +119,18 @@ pub data Outcome (ws : List ℕ) (limit columns r : ℕ) : Type 0 where
 module _ (ws : List ℕ) (limit columns r : ℕ) where
   by_end : (s a b : ℕ) (u : Option Span) (n c d : ℕ) (x : Option Span) → read_parts ws limit columns (λ i. i) 10 r (length ws) 0 0 0 None ≡ stop s a b u → read_parts ws limit columns (λ i. s) 11 r (length ws) 0 a b None ≡ stop n c d x
       → (z : Read Cursor) → read_end ws limit columns s c d ≡ z → Outcome ws limit columns r
-  unfolding find find_after
+  unfolding find read_file read_after
   by_end s a b u n c d x p q (Ok c0) l = passed s a b u n c d x c0.at c0.next p q l (rw (p, q, l))
   by_end s a b u n c d x p q (Err w) l = in_end s a b u n c d x w.place p q l (rw (p, q, l))
 
   by_rows : (s a b : ℕ) (u : Option Span) → read_parts ws limit columns (λ i. i) 10 r (length ws) 0 0 0 None ≡ stop s a b u
       → (t : Read Parts) → read_parts ws limit columns (λ i. s) 11 r (length ws) 0 a b None ≡ t → Outcome ws limit columns r
-  unfolding find find_after
+  unfolding find read_file read_after
   by_rows s a b u p (Ok t) q = by_end s a b u t.count t.end.at t.end.next t.span p q (read_end ws limit columns s t.end.at t.end.next) refl
   by_rows s a b u p (Err w) q = in_rows s a b u w.place p q (rw (p, q))
 
   by_shared : (t : Read Parts) → read_parts ws limit columns (λ i. i) 10 r (length ws) 0 0 0 None ≡ t → Outcome ws limit columns r
-  unfolding find
+  unfolding find read_file
   by_shared (Ok t) p = by_rows t.count t.end.at t.end.next t.span p (read_parts ws limit columns (λ i. t.count) 11 r (length ws) 0 t.end.at t.end.next None) refl
   by_shared (Err w) p = in_shared w.place p (rw p)
 

@@ -1,12 +1,11 @@
 -- Document 01, "One row of a model file" and refusals 17 and 18.
-use Rattle.std.specs.Prelude.{ℕ, ◌-◌, List, length, take, drop, Option, Some, None, Result, Ok, Err}
+use Rattle.std.specs.Prelude.{ℕ, ◌-◌, List, take, drop, Option, Some, None, Result, Ok, Err}
 use Rattle.base.specs.declared.refusal.Refusal.{Refusal}
 use Rattle.base.specs.declared.refusal.Reason.{Reason}
 use Rattle.base.specs.declared.refusal.Reason.TheVariants as reason
 use Rattle.nl.specs.declared.reader.WrongWord.{WrongWord}
 use Rattle.nl.specs.declared.reader.Span.{Span}
-use Rattle.nl.specs.declared.reader.Parts.{Parts}
-use Rattle.nl.specs.Reader.{Read, read_parts, read_end}
+use Rattle.nl.specs.Reader.{Read, read_file}
 
 -- a row: nothing is refused, and its expression starts and ends there
 abbrev pub found : ℕ → ℕ → Result Span Refusal
@@ -34,15 +33,9 @@ or_absent (Some s) rows = Ok s
 or_absent None rows = refused reason.Row rows
 
 module _ (ws : List ℕ) (constants columns r : ℕ) where
-  -- rows and end, after the shared parts
-  unfoldable pub find_after : Parts → Result Span Refusal
-  find_after shared =
-      unless_wrong (read_parts ws constants columns (λ i. shared.count) 11 r (length ws) 0 shared.end.at shared.end.next None)
-      (λ rows. unless_wrong (read_end ws constants columns shared.count rows.end.at rows.end.next) (λ _. or_absent rows.span rows.count))
-
   -- "One call gives number and place", the fault, "another the part". "The whole file is checked first."
   unfoldable pub find : Result Span Refusal
-  find = unless_wrong (read_parts ws constants columns (λ i. i) 10 r (length ws) 0 0 0 None) find_after
+  find = unless_wrong (read_file ws constants columns r) (λ parts. or_absent parts.rows.span parts.rows.count)
 
   -- the part: where it starts in the caller's words and how long it is, 0 and 0 when refused
   unfoldable pub row_start : ℕ

@@ -1,5 +1,5 @@
 -- Document 01, "The model file": the numbers of the words' kinds, and what parts of each kind begin with and may name.
-use Rattle.std.specs.Prelude.{ℕ}
+use Rattle.std.specs.Prelude.{ℕ, cond, eqb, [], ◌∷◌, get_or}
 use Rattle.nl.specs.declared.kind.Kind.{Kind}
 use Rattle.nl.specs.declared.kind.Kind.TheVariants as word
 use Rattle.nl.specs.declared.kind.Mark.{Mark}
@@ -20,6 +20,11 @@ number_of word.Cosine = 7
 number_of word.Sine = 8
 number_of word.Sum = 9
 
+-- the kind of that number, from 0 to 9
+unfoldable pub kind_at : ℕ → Kind
+kind_at kind =
+    get_or (word.Constant ∷ word.Column ∷ word.Shared ∷ word.Add ∷ word.Subtract ∷ word.Multiply ∷ word.Square ∷ word.Cosine ∷ word.Sine ∷ word.Sum ∷ []) kind word.Sum
+
 -- "10 begins a shared part, 11 a row", 12 the objective, 13 ends the file
 abbrev pub mark_number : Mark → ℕ
 mark_number mark.Shared = 10
@@ -35,3 +40,7 @@ part_number (part.Row shared) = 11
 abbrev pub part_names : PartKind → ℕ → ℕ
 part_names part.Shared i = i
 part_names (part.Row shared) i = shared
+
+-- the same of parts that begin with words of any kind, in a file with so many shared parts
+unfoldable pub named_by : ℕ → ℕ → ℕ → ℕ
+named_by kind shared i = cond (eqb kind 10) i shared

@@ -2,12 +2,15 @@
 -- that the two agree is proved.
 use Rattle.std.specs.Prelude.{ℕ, zero, suc, ◌+◌, Bool, false, cond, List, ltb, leb, eqb, length, get_or, Option, Some, None, Result, Ok, Err}
 use Rattle.base.specs.Word.{kind_of, load_of}
+use Rattle.nl.specs.declared.kind.Kind.{Kind}
 use Rattle.nl.specs.declared.reader.Cursor.{Cursor}
 use Rattle.nl.specs.declared.reader.WrongWord.{WrongWord}
 use Rattle.nl.specs.declared.reader.Head.{Head}
 use Rattle.nl.specs.declared.reader.Span.{Span}
 use Rattle.nl.specs.declared.reader.Parts.{Parts}
+use Rattle.nl.specs.declared.reader.FileParts.{FileParts}
 use Rattle.nl.specs.File.{depth_limit}
+use Rattle.nl.specs.Kinds.{kind_at}
 
 -- an answer of the reading: what was read, or the first wrong word
 abbrev pub Read : Type 0 → Type 0
@@ -44,16 +47,16 @@ arity kind load = cond (ltb kind 3) 0 (cond (ltb kind 6) 2 (cond (ltb kind 9) 1 
 unfoldable pub uses : ℕ → ℕ
 uses kind = cond (eqb kind 0) 1 0
 
--- how many operands follow a word, and the number of the next constant
-abbrev pub head : ℕ → ℕ → Option Head
-head operands next = Some (record { operands = operands; next = next })
+-- a word's kind, how many operands follow it, and the number of the next constant
+abbrev pub head : Kind → ℕ → ℕ → Option Head
+head kind operands next = Some (record { kind = kind; operands = operands; next = next })
 
 -- the one word at `at`: "length if they run out"
 unfoldable pub read_head : List ℕ → ℕ → ℕ → ℕ → ℕ → ℕ → Option Head
 read_head ws constants columns named at k =
     cond (ltb at (length ws))
     (cond (word_ok constants columns named k (kind_of (get_or ws at 0)) (load_of (get_or ws at 0)))
-    (head (arity (kind_of (get_or ws at 0)) (load_of (get_or ws at 0))) (k + uses (kind_of (get_or ws at 0))))
+    (head (kind_at (kind_of (get_or ws at 0))) (arity (kind_of (get_or ws at 0)) (load_of (get_or ws at 0))) (k + uses (kind_of (get_or ws at 0))))
     None)
     None
 
@@ -66,6 +69,11 @@ after (Err w) f = Err w
 abbrev pub many : (ℕ → ℕ → Read Cursor) → ℕ → ℕ → ℕ → Read Cursor
 many f zero at k = went at k
 many f (suc n) at k = after (f at k) (many f n)
+
+-- the same of anything that was read
+abbrev pub and_then : {A B : Type 0} → Read A → (A → Read B) → Read B
+and_then (Ok a) f = f a
+and_then (Err w) f = Err w
 
 abbrev pub opened : Option Head → Read Cursor → (ℕ → ℕ → Read Cursor) → Read Cursor
 opened (Some h) wrong f = f h.operands h.next
@@ -107,3 +115,15 @@ module _ (ws : List ℕ) (constants : ℕ) where
       cond (is_mark ws 12 0 at)
       (after (read_expr ws constants columns shared depth_limit (at + 1) k) read_last)
       (wrong at)
+
+module _ (ws : List ℕ) (constants columns r : ℕ) where
+  -- the rows, the objective and the end, after the shared parts
+  unfoldable pub read_after : Parts → Read FileParts
+  read_after shared =
+      and_then (read_parts ws constants columns (λ i. shared.count) 11 r (length ws) 0 shared.end.at shared.end.next None)
+      (λ rows. and_then (read_end ws constants columns shared.count rows.end.at rows.end.next)
+      (λ _. Ok (record { shared = shared; rows = rows })))
+
+  -- the whole file: its shared parts and its rows, with the expressions of shared part r and of row r, if they are there
+  unfoldable pub read_file : Read FileParts
+  read_file = and_then (read_parts ws constants columns (λ i. i) 10 r (length ws) 0 0 0 None) read_after

@@ -1,6 +1,6 @@
 // The kinds of a model file's words: those of its expressions, and the marks between them.
-ghost use Rattle.std.specs.Prelude.{◌≡◌, ◌<◌, MatchOption};
-ghost use Rattle.nl.specs.Kinds.{number_of, mark_number, part_number, part_names};
+ghost use Rattle.std.specs.Prelude.{◌≡◌, ◌<◌, MatchResult};
+ghost use Rattle.nl.specs.Kinds.{number_of, mark_number};
 ghost use Rattle.nl.specs.Reader.{arity, uses};
 
 // What a word of an expression is, in the order of the kinds' numbers from 0 on.
@@ -23,25 +23,6 @@ impl Kind {
         ensures { result ≡ number_of self }
     {
         self as u32
-    }
-
-    // The kind of that number, where words of an expression have one.
-    pub fn of(number: u32) -> Option<Kind>
-        ensures { MatchOption result (9 < number) (λ kind. number_of kind ≡ number) }
-    {
-        match number {
-            0 => Some(Kind::Constant),
-            1 => Some(Kind::Column),
-            2 => Some(Kind::Shared),
-            3 => Some(Kind::Add),
-            4 => Some(Kind::Subtract),
-            5 => Some(Kind::Multiply),
-            6 => Some(Kind::Square),
-            7 => Some(Kind::Cosine),
-            8 => Some(Kind::Sine),
-            9 => Some(Kind::Sum),
-            _ => None,
-        }
     }
 
     // How many operands follow a word of this kind and that load.
@@ -69,6 +50,32 @@ impl Kind {
     }
 }
 
+// That a number is no kind's of an expression's words.
+#[derive(Clone, Copy, Debug, PartialEq, Eq)]
+pub struct UnknownKind;
+
+impl TryFrom<u32> for Kind {
+    type Error = UnknownKind;
+
+    ghost try_from_gives = { λ number result. MatchResult result (λ kind. number_of kind ≡ number) (λ _. 9 < number) };
+
+    fn try_from(number: u32) -> Result<Kind, UnknownKind> {
+        match number {
+            0 => Ok(Kind::Constant),
+            1 => Ok(Kind::Column),
+            2 => Ok(Kind::Shared),
+            3 => Ok(Kind::Add),
+            4 => Ok(Kind::Subtract),
+            5 => Ok(Kind::Multiply),
+            6 => Ok(Kind::Square),
+            7 => Ok(Kind::Cosine),
+            8 => Ok(Kind::Sine),
+            9 => Ok(Kind::Sum),
+            _ => Err(UnknownKind),
+        }
+    }
+}
+
 // What begins a shared part, a row or the objective, and the end word.
 #[derive(Clone, Copy, Debug, PartialEq, Eq)]
 pub enum Mark {
@@ -92,25 +99,4 @@ impl Mark {
 pub enum PartKind {
     Shared,
     Row { shared: usize },
-}
-
-impl PartKind {
-    pub(crate) fn mark(self) -> Mark
-        ensures { mark_number result ≡ part_number self }
-    {
-        match self {
-            PartKind::Shared => Mark::Shared,
-            PartKind::Row { .. } => Mark::Row,
-        }
-    }
-
-    // How many shared parts may be named: in shared part i the lower ones, in a row all.
-    pub(crate) fn named(self, i: usize) -> usize
-        ensures { result ≡ part_names self i }
-    {
-        match self {
-            PartKind::Shared => i,
-            PartKind::Row { shared } => shared,
-        }
-    }
 }

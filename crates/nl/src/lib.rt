@@ -16,12 +16,14 @@ ghost use Rattle.nl.specs.Same.{same};
 
 use base::{Reason, Refusal};
 pub use boundary::{fervoulk_find_row, fervoulk_row_length, fervoulk_row_start, fervoulk_same};
-pub use kind::{Kind, Mark, PartKind};
-pub use reader::{Cursor, DEPTH_LIMIT, Head, ModelFile, Parts, Span, WrongWord};
+pub use kind::{Kind, Mark, PartKind, UnknownKind};
+pub use reader::{Cursor, DEPTH_LIMIT, FileParts, Head, ModelFile, Parts, Span, WrongWord};
+
+// The functions here take a file's words and its two counts apart, as the public functions and those for C do.
 
 // Where the expression of row r, from 0, stands in a model file, which is checked whole first: 17 and the first wrong word where the
 // file does not pass reading, 18 and the number of rows where there is no row r.
-#[tactic(auto, unfolding(crate::specs::Finder::find, crate::specs::Finder::find_after))]
+#[tactic(auto, unfolding(crate::specs::Finder::find))]
 pub fn find_row(words: &[u32], constants: usize, columns: usize, r: usize) -> Result<Span, Refusal>
     ensures { result ≡ find words.now constants columns r }
 {
@@ -30,12 +32,7 @@ pub fn find_row(words: &[u32], constants: usize, columns: usize, r: usize) -> Re
         constants,
         columns,
     };
-    let shared = file.read_parts(Cursor::START, PartKind::Shared, r)?;
-    let kind = PartKind::Row {
-        shared: shared.count,
-    };
-    let rows = file.read_parts(shared.end, kind, r)?;
-    file.read_end(rows.end, shared.count)?;
+    let rows = file.read(r)?.rows;
     let absent = Refusal {
         reason: Reason::Row,
         place: rows.count,

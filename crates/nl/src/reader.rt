@@ -1,7 +1,7 @@
 // The one reading of a model file, from left to right up to the first wrong word.
 ghost use Rattle.std.specs.Prelude.{◌≡◌, ◌+◌, ◌<◌, length, None};
-ghost use Rattle.nl.specs.Kinds.{number_of, mark_number, part_number, part_names};
-ghost use Rattle.nl.specs.Reader.{word_ok, read_head, read_expr, is_mark, read_parts, read_last, read_end};
+ghost use Rattle.nl.specs.Kinds.{number_of, mark_number, part_number, part_names, named_by};
+ghost use Rattle.nl.specs.Reader.{word_ok, read_head, read_expr, is_mark, read_parts, read_last, read_end, read_file};
 ghost use Rattle.nl.specs.Finder.{refusal_of};
 
 use crate::kind::{Kind, Mark, PartKind};
@@ -18,15 +18,11 @@ pub struct ModelFile<'a> {
     pub columns: usize,
 }
 
-// Where reading goes on, and the number of the next constant.
-#[derive(Clone, Copy, Debug, PartialEq, Eq)]
+// Where reading goes on, and the number of the next constant; at first both are 0.
+#[derive(Clone, Copy, Debug, Default, PartialEq, Eq)]
 pub struct Cursor {
     pub at: usize,
     pub next: usize,
-}
-
-impl Cursor {
-    pub const START: Cursor = Cursor { at: 0, next: 0 };
 }
 
 // The first wrong word.
@@ -46,9 +42,10 @@ impl From<WrongWord> for Refusal {
     }
 }
 
-// What a word says that may stand in an expression: how many operands follow it, and the number of the next constant.
+// What a word says that may stand in an expression: its kind, how many operands follow it, and the number of the next constant.
 #[derive(Clone, Copy, Debug, PartialEq, Eq)]
 pub struct Head {
+    pub kind: Kind,
     pub operands: usize,
     pub next: usize,
 }
@@ -66,6 +63,13 @@ pub struct Parts {
     pub count: usize,
     pub end: Cursor,
     pub span: Option<Span>,
+}
+
+// The shared parts and the rows of a file that passes reading.
+#[derive(Clone, Copy, Debug, PartialEq, Eq)]
+pub struct FileParts {
+    pub shared: Parts,
+    pub rows: Parts,
 }
 
 // Where an expression stands: its file, and how many shared parts it may name, the lowest. (They stay the same down the recursion.)
@@ -97,9 +101,21 @@ impl Scope<'_> {
     }
 }
 
+// How many shared parts part i may name, of parts that begin with words of that kind: any number, since `read_run` takes any.
+#[tactic(auto, unfolding(crate::specs::Kinds::named_by))]
+fn named_by(kind: u32, shared: usize, i: usize) -> usize
+    ensures { result ≡ named_by kind shared i }
+{
+    if kind == Mark::Shared.number() {
+        i
+    } else {
+        shared
+    }
+}
+
 impl ModelFile<'_> {
     // Past the word there.
-    fn past(&self, from: Cursor) -> Cursor
+    pub fn past(&self, from: Cursor) -> Cursor
         requires { from.at < length self.now.words.now }
         ensures { result ≡ record { at = from.at + 1; next = from.next } }
     {
@@ -125,47 +141,60 @@ impl ModelFile<'_> {
     }
 
     // Reads the one word there, where the lowest `named` shared parts may be named.
-    #[tactic(auto, unfolding(crate::specs::Reader::read_head), using(crate::proofs::Steps::no_kind, crate::proofs::Steps::next_fits))]
+    #[tactic(auto, unfolding(crate::specs::Reader::read_head), using(crate::proofs::Steps::no_kind, crate::proofs::Steps::next_fits, crate::proofs::Steps::kind_of_number))]
     pub fn read_head(&self, from: Cursor, named: usize) -> Option<Head>
         ensures { let file = self.now in
             result ≡ read_head file.words.now file.constants file.columns named from.at from.next }
     {
         let word = *self.words.get(from.at)?;
-        let kind = Kind::of(base::kind_of(word))?;
+        let kind = Kind::try_from(base::kind_of(word)).ok()?;
         let load = base::load_of(word) as usize;
         if !self.word_ok(kind, load, from.next, named) {
             return None;
         }
         Some(Head {
+            kind,
             operands: kind.operands(load),
             next: from.next + kind.uses(),
         })
     }
 
-    // Whether that mark with that load stands at `at`.
+    // Whether the word of that kind and load stands at `at`. It takes any number for a kind.
     #[tactic(auto, unfolding(crate::specs::Reader::is_mark))]
+    pub fn is_word(&self, kind: u32, load: usize, at: usize) -> bool
+        ensures { result ≡ is_mark self.now.words.now kind load at }
+    {
+        self.words.get(at).is_some_and(|word| {
+            base::kind_of(*word) == kind && base::load_of(*word) as usize == load
+        })
+    }
+
+    // Whether that mark with that load stands there.
     pub fn is_mark(&self, mark: Mark, load: usize, at: usize) -> bool
         ensures { result ≡ is_mark self.now.words.now (mark_number mark) load at }
     {
-        match self.words.get(at) {
-            Some(word) => {
-                base::kind_of(*word) == mark.number() && base::load_of(*word) as usize == load
-            }
-            None => false,
-        }
+        self.is_word(mark.number(), load, at)
     }
 
-    // Reads the parts of a kind from there on, numbered from 0, and keeps where the expression of part r stands.
-    pub fn read_parts(&self, from: Cursor, kind: PartKind, r: usize) -> Result<Parts, WrongWord>
+    // Reads the parts that begin with words of that kind from there on, numbered from 0, and keeps where the expression of part r stands.
+    // It takes any number for a kind.
+    pub fn read_run(
+        &self,
+        from: Cursor,
+        kind: u32,
+        shared: usize,
+        r: usize,
+    ) -> Result<Parts, WrongWord>
         ensures { let file = self.now in
-            result ≡ read_parts file.words.now file.constants file.columns (part_names kind)
-            (part_number kind) r (length file.words.now) 0 from.at from.next None }
+            result ≡ read_parts file.words.now file.constants file.columns (named_by kind shared)
+            kind r (length file.words.now) 0 from.at from.next None }
     {
         let mut count = 0;
         let mut end = from;
         let mut span = None;
-        while self.is_mark(kind.mark(), count, end.at) {
-            let named = kind.named(count);
+        // A `for` over a range would need a second exit, at the first word that begins no such part.
+        while self.is_word(kind, count, end.at) {
+            let named = named_by(kind, shared, count);
             let scope = Scope { file: *self, named };
             let start = self.past(end);
             end = scope.read_expr(start, DEPTH_LIMIT)?;
@@ -178,6 +207,19 @@ impl ModelFile<'_> {
             count += 1;
         }
         Ok(Parts { count, end, span })
+    }
+
+    // Reads the shared parts, or the rows, in the same way.
+    #[tactic(auto, unfolding(crate::specs::Kinds::named_by))]
+    pub fn read_parts(&self, from: Cursor, kind: PartKind, r: usize) -> Result<Parts, WrongWord>
+        ensures { let file = self.now in
+            result ≡ read_parts file.words.now file.constants file.columns (part_names kind)
+            (part_number kind) r (length file.words.now) 0 from.at from.next None }
+    {
+        match kind {
+            PartKind::Shared => self.read_run(from, Mark::Shared.number(), 0, r),
+            PartKind::Row { shared } => self.read_run(from, Mark::Row.number(), shared, r),
+        }
     }
 
     // Reads the end word: all constants are used, and no word follows.
@@ -211,5 +253,20 @@ impl ModelFile<'_> {
         };
         let objective = scope.read_expr(self.past(from), DEPTH_LIMIT)?;
         self.read_last(objective)
+    }
+
+    // Reads the whole file, and keeps where the expressions of shared part r and of row r stand.
+    #[tactic(auto, unfolding(crate::specs::Reader::read_file, crate::specs::Reader::read_after))]
+    pub fn read(&self, r: usize) -> Result<FileParts, WrongWord>
+        ensures { let file = self.now in
+            result ≡ read_file file.words.now file.constants file.columns r }
+    {
+        let shared = self.read_parts(Cursor::default(), PartKind::Shared, r)?;
+        let kind = PartKind::Row {
+            shared: shared.count,
+        };
+        let rows = self.read_parts(shared.end, kind, r)?;
+        self.read_end(rows.end, shared.count)?;
+        Ok(FileParts { shared, rows })
     }
 }

@@ -2,7 +2,6 @@
 #![tactic(auto)]
 
 ghost use Rattle.std.specs.Prelude.{◌≡◌, cond};
-ghost use Rattle.std.specs.Float.Ieee.{eq};
 ghost use Rattle.base.specs.Fault.{fault_of, packed};
 ghost use Rattle.nl.specs.Finder.{find, row_start, row_length};
 ghost use Rattle.nl.specs.Same.{same};

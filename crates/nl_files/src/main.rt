@@ -2,12 +2,12 @@
 // record is laid out), and prints how many there are and for how many an answer is another.
 #![tactic(auto)]
 
-ghost use Rattle.std.specs.Prelude.{◌≡◌, ◌*◌, ◌≤◌, ◌<◌, length};
-ghost use Rattle.std.specs.Iterator.{at_most};
+ghost use Rattle.std.specs.Prelude.{◌≤◌, ◌<◌};
 
-use little_endian::Record;
+use little_endian::{Record, Records};
 use std::alloc::{AllocError, Global};
 use std::io::Read;
+use std::num::NonZeroUsize;
 use std::ops::Range;
 use std::{fs, io};
 
@@ -57,14 +57,14 @@ fn finder_right(record: Record, words: &[u32]) -> bool {
 
 // Whether `same` and its form for C answer as the record says.
 fn same_right(alloc: Global, record: Record) -> Result<bool, AllocError> {
-    let constants_a = 6 + record.number(2);
-    let words_b = constants_a + record.number(3);
-    let constants_b = words_b + record.number(4);
-    let end = constants_b + record.number(5);
-    let words_a = words(alloc, record, 6..constants_a)?;
-    let constants_a = values(alloc, record, constants_a..words_b)?;
-    let words_b = words(alloc, record, words_b..constants_b)?;
-    let constants_b = values(alloc, record, constants_b..end)?;
+    let constants_a_at = 6 + record.number(2);
+    let words_b_at = constants_a_at + record.number(3);
+    let constants_b_at = words_b_at + record.number(4);
+    let end = constants_b_at + record.number(5);
+    let words_a = words(alloc, record, 6..constants_a_at)?;
+    let constants_a = values(alloc, record, constants_a_at..words_b_at)?;
+    let words_b = words(alloc, record, words_b_at..constants_b_at)?;
+    let constants_b = values(alloc, record, constants_b_at..end)?;
     let answer = record.word(1);
     Ok(
         nl::same(&words_a, &constants_a, &words_b, &constants_b) == (answer == 1)
@@ -72,14 +72,41 @@ fn same_right(alloc: Global, record: Record) -> Result<bool, AllocError> {
     )
 }
 
+// What a record is of.
+#[derive(Clone, Copy)]
+enum Kind {
+    Finder,
+    Same,
+}
+
+// By its number in the file: all but 0 are of `same`.
+impl From<u32> for Kind {
+    fn from(number: u32) -> Kind {
+        match number {
+            0 => Kind::Finder,
+            _ => Kind::Same,
+        }
+    }
+}
+
 // How many words the record says that it has.
 fn size(record: Record) -> usize
     ensures { (1 ≤ result) × (result < 34359738368) }
 {
-    if record.word(0) == 0 {
-        return 9 + record.number(8);
+    match Kind::from(record.word(0)) {
+        Kind::Finder => 9 + record.number(8),
+        Kind::Same => {
+            6 + record.number(2) + record.number(3) + record.number(4) + record.number(5)
+        }
     }
-    6 + record.number(2) + record.number(3) + record.number(4) + record.number(5)
+}
+
+// What the data takes of it: bytes that are no word are no record.
+fn bytes_of(record: Record) -> Option<NonZeroUsize> {
+    if record.bytes.len() < 4 {
+        return None;
+    }
+    NonZeroUsize::new(4 * size(record))
 }
 
 // A record that is cut short is wrong.
@@ -88,31 +115,9 @@ fn right(alloc: Global, record: Record) -> Result<bool, AllocError> {
     if record.bytes.len() / 4 < size {
         return Ok(false);
     }
-    if record.word(0) == 0 {
-        let words = words(alloc, record, 9..size)?;
-        return Ok(finder_right(record, &words));
-    }
-    same_right(alloc, record)
-}
-
-// The records, one after the other.
-#[derive(Drop)]
-struct Records<'a> {
-    bytes: &'a [u8],
-}
-
-impl<'a> Iterator for Records<'a> {
-    type Item = Record<'a>;
-
-    ghost remaining = { λ s. at_most (length s.bytes.now) };
-
-    fn next(&mut self) -> Option<Record<'a>> {
-        if self.bytes.len() < 4 {
-            return None;
-        }
-        let record = Record { bytes: self.bytes };
-        self.bytes = self.bytes.get(4 * size(record)..).unwrap_or(&[]);
-        Some(record)
+    match Kind::from(record.word(0)) {
+        Kind::Finder => Ok(finder_right(record, &words(alloc, record, 9..size)?)),
+        Kind::Same => same_right(alloc, record),
     }
 }
 
@@ -123,7 +128,9 @@ fn main(rt: HostRuntime) -> io::Result<()> {
         .read_to_end(&mut bytes)?;
     let records = Records {
         bytes: bytes.as_slice(),
+        size: |record| bytes_of(record),
     };
+    // Three programs end in these lines: little_endian, which they share, has no heap.
     let answers: Vec<bool> = records
         .map(|record| right(rt.alloc(), record))
         .try_collect(rt.alloc())?;

@@ -2,13 +2,13 @@
 // chosen) through compile and the check, and prints how many there are and for how many the answer or a list is another.
 #![tactic(auto)]
 
-ghost use Rattle.std.specs.Prelude.{◌≡◌, ◌+◌, ◌≤◌, ◌<◌, length};
-ghost use Rattle.std.specs.Iterator.{at_most};
+ghost use Rattle.std.specs.Prelude.{◌<◌};
 
 use base::Refusal;
 use compile::Compiled;
-use little_endian::bits_at;
+use little_endian::{Record, Records, has_front};
 use std::alloc::{AllocError, Global};
+use std::num::NonZeroUsize;
 use std::ops::Range;
 use std::{fs, io};
 
@@ -20,30 +20,33 @@ const LENT: f64 = 5.0;
 
 const LENT_WORD: u32 = 5;
 
-// The counts of a network that is refused.
-const NONE: Compiled = Compiled {
-    words: 0,
-    constants: 0,
-    columns: 0,
-    rows: 0,
-    shared: 0,
-    objective: 0.0,
-};
+// What a record is of.
+#[derive(Clone, Copy)]
+enum Kind {
+    Check,
+    Compile,
+}
+
+// By its number in the file: all but 0 are of compile.
+impl From<u32> for Kind {
+    fn from(number: u32) -> Kind {
+        match number {
+            0 => Kind::Check,
+            _ => Kind::Compile,
+        }
+    }
+}
 
 // A stored record, of cells of 64 bits.
 #[derive(Clone, Copy)]
-struct Record<'a> {
-    bytes: &'a [u8],
+struct Cells<'a> {
+    record: Record<'a>,
 }
 
-impl Record<'_> {
+impl Cells<'_> {
     // 0 past the data.
     fn cell(self, i: usize) -> u64 {
-        if i < self.bytes.len() / 8 {
-            bits_at(self.bytes, i * 8)
-        } else {
-            0
-        }
+        self.record.bits(i)
     }
 
     // A cell's lower half.
@@ -58,7 +61,7 @@ impl Record<'_> {
     }
 
     fn value(self, i: usize) -> f64 {
-        float::from_bits(self.cell(i))
+        self.record.float(i)
     }
 
     fn words(self, alloc: Global, at: Range<usize>) -> Result<Vec<u32>, AllocError> {
@@ -69,32 +72,21 @@ impl Record<'_> {
         at.map(|i| self.value(i)).collect(alloc)
     }
 
-    // Whether the bits of the list are those cells.
-    fn has(self, at: Range<usize>, list: &[f64]) -> bool {
-        at.len() == list.len()
-            && list
-                .iter()
-                .zip(at)
-                .all(|(x, i)| float::to_bits(*x) == self.cell(i))
-    }
-
     // Whether the list has those cells in front, and the rest as it was lent.
-    fn has_front(self, at: Range<usize>, list: &[f64]) -> bool {
-        match list.split_at_checked(at.len()) {
-            Some((front, rest)) => self.has(at, front) && rest.iter().all(|x| *x == LENT),
-            None => false,
-        }
+    fn in_front(self, alloc: Global, at: Range<usize>, list: &[f64]) -> Result<bool, AllocError> {
+        let stored: Vec<u64> = at.map(|i| self.cell(i)).collect(alloc)?;
+        Ok(has_front(list, &stored, LENT))
     }
 
-    // The same of so many words, which stand two a cell from cell i on.
+    // The same of so many words, which stand two a cell from cell i on. `has_front` compares floats by their bits, and a function for both
+    // types would take that as a closure, and be longer than this one.
     fn has_words(self, i: usize, count: usize, list: &[u32]) -> bool
         requires { (i < 17179869184) × (count < 4294967296) }
     {
-        let halves = little_endian::Record { bytes: self.bytes };
         let at = 2 * i..2 * i + count;
         match list.split_at_checked(count) {
             Some((front, rest)) => {
-                front.iter().zip(at).all(|(w, k)| *w == halves.word(k))
+                front.iter().zip(at).all(|(w, k)| *w == self.record.word(k))
                     && rest.iter().all(|w| *w == LENT_WORD)
             }
             None => false,
@@ -103,32 +95,33 @@ impl Record<'_> {
 }
 
 // A record of the check.
-fn point_right(alloc: Global, record: Record) -> Result<bool, AllocError> {
-    let numbers = 19 + record.number(2);
-    let point = numbers + record.number(3);
-    let tolerances = point + record.number(4);
-    let list = tolerances + record.number(18);
+fn point_right(alloc: Global, record: Cells) -> Result<bool, AllocError> {
+    let numbers_at = 19 + record.number(2);
+    let point_at = numbers_at + record.number(3);
+    let tolerances_at = point_at + record.number(4);
+    let outputs_at = tolerances_at + record.number(18);
     let lent = record.number(5);
     let mut outputs = vec![in alloc; LENT; lent]?;
     let answer = validate::check(
-        &record.words(alloc, 19..numbers)?,
-        &record.values(alloc, numbers..point)?,
-        &record.values(alloc, point..tolerances)?,
+        &record.words(alloc, 19..numbers_at)?,
+        &record.values(alloc, numbers_at..point_at)?,
+        &record.values(alloc, point_at..tolerances_at)?,
         record.value(8),
-        &record.values(alloc, tolerances..list)?,
+        &record.values(alloc, tolerances_at..outputs_at)?,
         &mut outputs,
     );
     Ok(
         base::shown(answer.verdict) == (record.word(6), record.number(7))
             && float::to_bits(answer.objective()) == record.cell(9)
-            && record.has(10..18, &answer.residuals)
-            && record.has(list..list + lent, &outputs),
+            && record.in_front(alloc, 10..18, &answer.residuals)?
+            && record.in_front(alloc, outputs_at..outputs_at + lent, &outputs)?,
     )
 }
 
 // Whether number, place, counts and objective constant are the record's.
-fn answer_right(record: Record, answer: Result<Compiled, Refusal>) -> bool {
-    let counts = answer.unwrap_or(NONE);
+fn answer_right(record: Cells, answer: Result<Compiled, Refusal>) -> bool {
+    // A network that is refused has counts of 0.
+    let counts = answer.unwrap_or_default();
     base::shown(answer) == (record.word(4), record.number(5))
         && counts.words == record.number(6)
         && counts.constants == record.number(7)
@@ -138,89 +131,105 @@ fn answer_right(record: Record, answer: Result<Compiled, Refusal>) -> bool {
         && float::to_bits(counts.objective) == record.cell(11)
 }
 
-// compile on lists of its own; the record's lists start at cell i.
-fn compile_right(record: Record, i: usize, words: &[u32], numbers: &[f64]) -> bool
+// The lists that compile is lent.
+#[derive(Drop)]
+struct Lists {
+    words: Vec<u32>,
+    constants: Vec<f64>,
+    lower: Vec<f64>,
+    upper: Vec<f64>,
+    start: Vec<f64>,
+    row_lower: Vec<f64>,
+    row_upper: Vec<f64>,
+}
+
+impl Lists {
+    fn lent(alloc: Global) -> Result<Lists, AllocError> {
+        Ok(Lists {
+            words: vec![in alloc; LENT_WORD; 1024]?,
+            constants: vec![in alloc; LENT; 256]?,
+            lower: vec![in alloc; LENT; 64]?,
+            upper: vec![in alloc; LENT; 64]?,
+            start: vec![in alloc; LENT; 64]?,
+            row_lower: vec![in alloc; LENT; 128]?,
+            row_upper: vec![in alloc; LENT; 128]?,
+        })
+    }
+
+    // Whether they are the record's, which start at cell i.
+    fn right(&self, alloc: Global, record: Cells, i: usize) -> Result<bool, AllocError>
+        requires { i < 17179869184 }
+    {
+        let word_count = record.number(6);
+        let columns = record.number(8);
+        let rows = record.number(9);
+        let a = i + word_count.div_ceil(2);
+        let b = a + record.number(7);
+        let c = b + 3 * columns;
+        Ok(
+            record.has_words(i, word_count, &self.words)
+                && record.in_front(alloc, a..b, &self.constants)?
+                && record.in_front(alloc, b..b + columns, &self.lower)?
+                && record.in_front(alloc, b + columns..b + 2 * columns, &self.upper)?
+                && record.in_front(alloc, b + 2 * columns..c, &self.start)?
+                && record.in_front(alloc, c..c + rows, &self.row_lower)?
+                && record.in_front(alloc, c + rows..c + 2 * rows, &self.row_upper)?,
+        )
+    }
+}
+
+// compile on lists of its own; the record's start at cell i.
+fn compile_right(
+    alloc: Global,
+    record: Cells,
+    i: usize,
+    words: &[u32],
+    numbers: &[f64],
+) -> Result<bool, AllocError>
     requires { i < 17179869184 }
 {
-    let mut model = [LENT_WORD; 1024];
-    let mut constants = [LENT; 256];
-    let mut lower = [LENT; 64];
-    let mut upper = [LENT; 64];
-    let mut start = [LENT; 64];
-    let mut row_lower = [LENT; 128];
-    let mut row_upper = [LENT; 128];
+    let mut lists = Lists::lent(alloc)?;
     let answer = compile::compile(
         words,
         numbers,
-        &mut model,
-        &mut constants,
-        &mut lower,
-        &mut upper,
-        &mut start,
-        &mut row_lower,
-        &mut row_upper,
+        &mut lists.words,
+        &mut lists.constants,
+        &mut lists.lower,
+        &mut lists.upper,
+        &mut lists.start,
+        &mut lists.row_lower,
+        &mut lists.row_upper,
     );
-    let word_count = record.number(6);
-    let columns = record.number(8);
-    let rows = record.number(9);
-    let a = i + word_count.div_ceil(2);
-    let b = a + record.number(7);
-    let c = b + 3 * columns;
-    answer_right(record, answer)
-        && record.has_words(i, word_count, &model)
-        && record.has_front(a..b, &constants)
-        && record.has_front(b..b + columns, &lower)
-        && record.has_front(b + columns..b + 2 * columns, &upper)
-        && record.has_front(b + 2 * columns..c, &start)
-        && record.has_front(c..c + rows, &row_lower)
-        && record.has_front(c + rows..c + 2 * rows, &row_upper)
+    Ok(answer_right(record, answer) && lists.right(alloc, record, i)?)
 }
 
 // A record of compile.
-fn model_right(alloc: Global, record: Record) -> Result<bool, AllocError> {
-    let numbers = 12 + record.number(2);
-    let lists = numbers + record.number(3);
-    let words = record.words(alloc, 12..numbers)?;
-    let numbers = record.values(alloc, numbers..lists)?;
-    Ok(compile_right(record, lists, &words, &numbers))
+fn model_right(alloc: Global, record: Cells) -> Result<bool, AllocError> {
+    let numbers_at = 12 + record.number(2);
+    let lists_at = numbers_at + record.number(3);
+    let words = record.words(alloc, 12..numbers_at)?;
+    let numbers = record.values(alloc, numbers_at..lists_at)?;
+    compile_right(alloc, record, lists_at, &words, &numbers)
 }
 
-fn right(alloc: Global, record: Record) -> Result<bool, AllocError> {
-    if record.word(1) == 0 {
-        return point_right(alloc, record);
-    }
-    model_right(alloc, record)
-}
-
-// The records of a part of the file, up to a length of 0.
-#[derive(Drop)]
-struct Records<'a> {
-    part: &'a [u8],
-}
-
-impl<'a> Iterator for Records<'a> {
-    type Item = Record<'a>;
-
-    ghost remaining = { λ s. at_most (length s.part.now) };
-
-    fn next(&mut self) -> Option<Record<'a>> {
-        let record = Record { bytes: self.part };
-        let size = record.number(0);
-        if self.part.is_empty() || size == 0 {
-            return None;
-        }
-        self.part = self.part.get(8 * size..).unwrap_or(&[]);
-        Some(record)
+fn right(alloc: Global, record: Cells) -> Result<bool, AllocError> {
+    match Kind::from(record.word(1)) {
+        Kind::Check => point_right(alloc, record),
+        Kind::Compile => model_right(alloc, record),
     }
 }
 
 fn main(rt: HostRuntime) -> io::Result<()> {
     let bytes = fs::read(&rt, "answers")?;
+    // Three programs end in these lines: little_endian, which they share, has no heap.
     let answers: Vec<bool> = bytes
         .as_slice()
         .chunks(PART)
-        .flat_map(|part| Records { part })
-        .map(|record| right(rt.alloc(), record))
+        .flat_map(|part| Records {
+            bytes: part,
+            size: |record| NonZeroUsize::new(8 * Cells { record }.number(0)),
+        })
+        .map(|record| right(rt.alloc(), Cells { record }))
         .try_collect(rt.alloc())?;
     let wrong = answers.iter().filter(|right| !**right).count();
     println!(rt; "{} answers, {wrong} wrong", answers.len())

@@ -2,7 +2,8 @@
 ghost use Rattle.std.specs.Prelude.{◌≡◌, [], ◌∷◌, ◌+◌, ◌<◌, ◌≤◌, length};
 ghost use Rattle.base.specs.Loop.{each};
 ghost use Rattle.writer.specs.internal.Tokens.{Written, Room, part_tokens};
-ghost use Rattle.parts.specs.internal.Parts.{square_tokens, angle_parts, product_parts, voltage_parts, flow_sum, flow_parts, branch_tokens, shared_tokens};
+ghost use Rattle.parts.specs.internal.Parts.{square_tokens, angle_parts, product_parts, voltage_parts};
+ghost use Rattle.parts.specs.internal.Parts.{flow_sum, flow_parts, branch_tokens, shared_tokens};
 
 use network::Tables;
 use nl::{Kind, Mark};
@@ -59,7 +60,8 @@ fn angle_parts(writer: &mut ModelWriter, n: usize, from: usize, to: usize)
     );
 }
 
-// wr and wi of a branch, of whose eight parts the first has the number `first`.
+// wr and wi of a branch, of whose eight parts the first has the number `first`. Parts are named by their number, here and in balance and emit,
+// as the definitions name them (`branch_part b j`): methods for the eight would repeat those names for one use of each.
 fn product_parts(writer: &mut ModelWriter, first: usize)
     requires first { first ≤ 65536 }
     requires room { Room writer.old (part_tokens 10 (product_parts first)) }
@@ -96,8 +98,8 @@ fn voltage_parts(writer: &mut ModelWriter, n: usize, first: usize, from: usize, 
     product_parts(writer, first);
 }
 
-// A flow at the bus, by the coefficients of its vm squared, wr and wi. Inlined, as the functions that write and have two callers: the
-// writer's places then stay in registers.
+// A flow at the bus, by the coefficients of its vm squared, wr and wi. Inlined, as flow_parts, since each is called twice: the writer's
+// places then stay in registers.
 #[inline(always)]
 fn flow_part(writer: &mut ModelWriter, first: usize, bus: usize, coefficients: &[f64])
     requires first { (first ≤ 65536) × (bus < 4096) }

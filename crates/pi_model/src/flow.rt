@@ -5,17 +5,16 @@ ghost use Rattle.pi_model.specs.Flow.{coefficients_of, flow_of};
 use crate::complex::Complex;
 use network::Branch;
 
-// branch_flow's coefficients: of vm squared, wr and wi in p_from, then in q_from, p_to and q_to.
+// branch_flow's coefficients: of vm squared, wr and wi in p_from, then in q_from, p_to and q_to. A list, since factor goes over all twelve
+// by place, and parts cuts them in parts of six and three.
 #[tactic(auto, unfolding(crate::specs::Flow::coefficients_of))]
 pub fn coefficients(branch: Branch) -> [f64; 12]
     ensures { result ≡ coefficients_of branch }
 {
     let g = branch.g;
     let b = branch.b;
-    let tap = branch.tap;
-    let tap_squared = tap * tap;
-    let tr = tap * fdlibm::cos(branch.shift);
-    let ti = tap * fdlibm::sin(branch.shift);
+    let tap_squared = branch.tap * branch.tap;
+    let Complex { re: tr, im: ti } = Complex::from_polar(branch.tap, branch.shift);
     [
         (g + branch.g_fr) / tap_squared,
         (-g * tr + b * ti) / tap_squared,

@@ -3,4 +3,4 @@
 
 mod curve;
 
-pub use curve::{curve_value, intercept_of, slope_of};
+pub use curve::{Curve, Segment, curve_value, intercept_of, slope_of};

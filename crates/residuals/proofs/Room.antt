@@ -1,11 +1,12 @@
 -- One turn of each loop of the residuals, in the code's terms: every index is in range, and what the turn adds is the definition's.
 use mathlib.Core.Path.{◌≡◌, ap, ◌∙◌}
-use mathlib.Core.Bool.{cond}
+use mathlib.Core.Bool.{Bool, cond, ◌&&◌}
 use mathlib.Core.List.{List, [], ◌∷◌}
 use Prim.Native.Nat.{ℕ, ◌+◌, ◌-◌, ◌*◌, ◌≤◌}
 use native.Mathlib.Nat.{zero-add}
 use native.Mathlib.Omega.{arith}
 use lib.Ieee.{Float}
+use Rattle.std.specs.Float.Ieee.{lt}
 use lib.ListN.{length, take, drop, length-take, length-drop}
 use Rattle.std.proofs.lemmas.List.{length-take-le}
 use Rattle.float.specs.Number.{◌⊖◌, ◌⊘◌, absolute, maximum, zero64, one64}
@@ -37,10 +38,10 @@ module _ {ws : List ℕ} {xs : List Float} {l : Layout} {b : ℕ} {r : Branch} {
       → next ≡ largest_where (b + 1) (angled ws) (angle_off ws xs x)
   angle_turn x e h = where_next (angled ws) (angle_off ws xs x) b most next e (h ∙ rw B.is)
 
-  pub thermal_turn : (fs : List (List Float)) → most ≡ largest_where b (rated ws xs) (flow_off ws xs fs)
-      → next ≡ cond r.rated (maximum most (maximum (maximum (hypotenuse (p_from fs b) (q_from fs b)) (hypotenuse (p_to fs b) (q_to fs b)) ⊖ r.s_max) zero64)) most
+  pub thermal_turn : {on : Bool} → on ≡ (r.limited && lt zero64 r.s_max) → (fs : List (List Float)) → most ≡ largest_where b (rated ws xs) (flow_off ws xs fs)
+      → next ≡ cond on (maximum most (maximum (maximum (hypotenuse (p_from fs b) (q_from fs b)) (hypotenuse (p_to fs b) (q_to fs b)) ⊖ r.s_max) zero64)) most
       → next ≡ largest_where (b + 1) (rated ws xs) (flow_off ws xs fs)
-  thermal_turn fs e h = where_next (rated ws xs) (flow_off ws xs fs) b most next e (h ∙ rw B.is)
+  thermal_turn o fs e h = where_next (rated ws xs) (flow_off ws xs fs) b most next e (h ∙ rw (o, B.is))
 
 -- ---- what the residuals' functions say is the definitions'
 

@@ -1,28 +1,23 @@
 // What the generators cost at a point: its own objective, and residual 7. One walk gives both, and works out each curve's value once.
-ghost use Rattle.std.specs.Prelude.{◌≡◌, cond, ◌+◌, ◌-◌, ◌*◌, ◌≤◌, length};
+ghost use Rattle.std.specs.Prelude.{◌≡◌};
 ghost use Rattle.float.specs.Number.{◌⊕◌, ◌⊗◌, half64};
-ghost use Rattle.network.specs.Limits.{point_numbers, most_points};
-ghost use Rattle.piecewise_cost.specs.Curve.{evaluate};
 ghost use Rattle.residuals.specs.internal.Derived.{CostsAre};
 
 use derived::Candidate;
 use network::Generator;
+use piecewise_cost::Curve;
 
-#[derive(Clone, Copy, Debug, PartialEq)]
+// Both are 0 before the walk.
+#[derive(Clone, Copy, Debug, Default, PartialEq)]
 pub struct Costs {
     pub objective: f64,
     pub epigraph: f64,
 }
 
-// What the generator costs at the power p.
-fn generator_cost(numbers: &[f64], generator: Generator, p: f64) -> f64
-    requires { (generator.curve + point_numbers * generator.points ≤ length numbers.now) × (generator.points ≤ most_points) }
-    ensures { result ≡ cond generator.curved (evaluate numbers.now generator.curve (generator.points - 1) p)
-        (half64 ⊗ generator.cost_q ⊗ (p ⊗ p) ⊕ generator.cost_c ⊗ p ⊕ generator.cost_0) }
+// What a generator without a curve costs at the power p.
+fn quadratic_cost(generator: Generator, p: f64) -> f64
+    ensures { result ≡ half64 ⊗ generator.cost_q ⊗ (p ⊗ p) ⊕ generator.cost_c ⊗ p ⊕ generator.cost_0 }
 {
-    if generator.curved {
-        return piecewise_cost::curve_value(numbers, generator.curve, generator.points, p);
-    }
     0.5 * generator.cost_q * (p * p) + generator.cost_c * p + generator.cost_0
 }
 
@@ -31,22 +26,21 @@ pub fn costs_at(candidate: &Candidate) -> Costs
     ensures { CostsAre candidate.now.tables.words.now candidate.now.tables.numbers.now candidate.now.point.now result }
 {
     let tables = &candidate.tables;
-    let mut costs = Costs {
-        objective: 0.0,
-        epigraph: 0.0,
-    };
+    let mut costs = Costs::default();
     if !tables.layout.costs {
         return costs;
     }
-    let mut column = 2 * tables.layout.buses + 2 * tables.layout.generators;
     for (g, generator) in tables.generators() {
-        let cost = generator_cost(tables.numbers, generator, candidate.pg(g));
-        costs.objective += cost;
-        let curved = generator.curved;
-        if curved {
-            let over = float::maximum(cost - candidate.point[column], 0.0);
-            costs.epigraph = float::maximum(costs.epigraph, over);
-            column += 1;
+        let p = candidate.pg(g);
+        let column = generator.epigraph;
+        match column {
+            Some(epigraph) => {
+                let cost = Curve::new(tables.numbers, &generator).value(p);
+                let over = float::maximum(cost - candidate.point[epigraph], 0.0);
+                costs.objective += cost;
+                costs.epigraph = float::maximum(costs.epigraph, over);
+            }
+            None => costs.objective += quadratic_cost(generator, p),
         }
     }
     costs

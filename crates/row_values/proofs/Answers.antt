@@ -2,17 +2,16 @@
 use mathlib.Core.Path.{◌≡◌, refl, ap, ap₂, sym, ◌∙◌}
 use mathlib.Core.List.{List, [], ◌∷◌, ◌++◌}
 use mathlib.Core.Bool.{Bool, true, false}
-use Prim.Native.Nat.{ℕ, zero, suc, ◌+◌, ◌≤◌}
+use Prim.Native.Nat.{ℕ, suc, ◌+◌, ◌≤◌}
 use native.Mathlib.Omega.{arith}
 use lib.ListN.{length, length-map}
 use lib.Dec.{leb}
 use lib.Ieee.{Float, binary64, to_bits}
 use borrow.Author.Tests.{leb-true, leb-false}
 use Rattle.std.specs.Prelude.{None, Result, Ok, Err}
-use Rattle.base.specs.Fault.{Fault}
 use Rattle.base.specs.declared.refusal.Reason.TheVariants as reason
 use Rattle.base.specs.declared.refusal.Refusal.{Refusal}
-use Rattle.base.specs.Fault.{clear, unless, or_else, shown, fault_of}
+use Rattle.base.specs.Fault.{Fault, clear, unless, or_else, shown, fault_of}
 use Rattle.base.proofs.Firsts.{Proper, or_go, or_stop, or_proper}
 use Rattle.base.proofs.Refusals.{shown_number, link_err, link_ok}
 use Rattle.nl.specs.declared.reader.WrongWord.{WrongWord}
@@ -23,7 +22,6 @@ use Rattle.lists.specs.Finite.{point_fault}
 use Rattle.lists.proofs.Point.{length_place}
 use Rattle.model_reading.specs.declared.Counts.{Counts}
 use Rattle.model_reading.specs.declared.FileLayout.{FileLayout}
-use Rattle.model_reading.specs.Parse.{Parsed, parse_many}
 use Rattle.model_reading.specs.Place.{size, place_of, rows_at, objective_at}
 use Rattle.model_reading.specs.Reading.{shared_limit, file_layout, Reading, yields, wrong, reading}
 use Rattle.model_reading.specs.Counts.{counts_of, row_counts, counts_or_none}
@@ -43,10 +41,6 @@ pub length_values : (point values : List Float) (ts : Terms) → length (values_
 unfolding values_of
 length_values point values none = refl
 length_values point values (more e ts) = ap suc (length_values point values ts)
-
-count_many : (f : ℕ → Parsed) (n at : ℕ) → count (parse_many f n at).terms ≡ n
-count_many f zero at = refl
-count_many f (suc n) at = ap suc (count_many f n (f at).end)
 
 module _ (ws : List ℕ) (xs point : List Float) where
   -- ---- faults by places are the model's

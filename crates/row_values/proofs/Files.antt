@@ -14,9 +14,9 @@ use Rattle.base.proofs.Scans.{or_assoc}
 use Rattle.nl.specs.declared.reader.Cursor.{Cursor}
 use Rattle.nl.specs.declared.reader.WrongWord.{WrongWord}
 use Rattle.nl.specs.File.{depth_limit}
-use Rattle.nl.specs.Reader.{Read, wrong, is_mark, read_expr, read_last}
+use Rattle.nl.specs.Reader.{Read, wrong, is_mark, read_expr, read_last, read_after, read_file}
 use Rattle.nl.proofs.PartSteps.{mark_inside, no_objective, objective, objective_wrong}
-use Rattle.model_reading.specs.Reading.{shared_limit, layout_after, file_layout}
+use Rattle.model_reading.specs.Reading.{shared_limit, file_layout}
 use Rattle.model_reading.specs.Counts.{row_counts}
 use Rattle.model_reading.proofs.RowCounts.{too_many}
 use Rattle.expression.specs.declared.Scanned.{Scanned}
@@ -65,7 +65,7 @@ module _ (ws : List ℕ) (xs point : List Float) where
   file_full h = too_many ws (length xs) (length point) (λ p e. rw e at h)
 
   shared_failed : (w : WrongWord) → read_shared ws xs point ≡ Err w → file_layout ws (length xs) (length point) ≡ Err w
-  unfolding file_layout
+  unfolding file_layout read_file
   shared_failed w e = rw e
 
   pub shared_exit : (array before after : List Float) (e : ScanError) → SharedScanned ws xs point array (Err e) → FileScanned ws xs point array before after (Err e)
@@ -80,19 +80,19 @@ module _ (ws : List ℕ) (xs point : List Float) where
     named = length-take-le run.count array (omega (arith, S.fits))
 
     pub rows_failed : (w : WrongWord) → read_rows ws xs point values run.end.at run.end.next ≡ Err w → file_layout ws (length xs) (length point) ≡ Err w
-    unfolding file_layout layout_after
+    unfolding file_layout read_file read_after
     rows_failed w e = rw (S.reads, rw named at e)
 
     module _ (before after : List Float) (rows : Run) (R : RowsRun ws xs point values run.end.at run.end.next before after rows) where
       pub end_failed : (w : WrongWord) → read_last_parts ws xs point values rows.end.at rows.end.next ≡ Err w → file_layout ws (length xs) (length point) ≡ Err w
-      unfolding file_layout layout_after
+      unfolding file_layout read_file read_after
       end_failed w e = rw (S.reads, rw named at R.reads, rw named at e)
 
       pub file_run : (s : Scanned) (earlier v : Verdict) → Ends ws xs point values rows.end.at rows.end.next s
           → earlier ≡ result_and run.verdict rows.verdict → fault_of v ≡ or_else (fault_of earlier) (scanned_fault s rows.end.at)
           → FileRun ws xs point array before after
           (record { counts = record { shared = run.count; rows = rows.count }; rows_from = run.end; objective = s.value; verdict = v })
-      unfolding file_layout layout_after
+      unfolding file_layout read_file read_after
       file_run s earlier v E w f = record {
         objective_at = rows.end.at;
         reads = rw (S.reads, rw named at R.reads, rw named at E.reads);

@@ -7,11 +7,10 @@ use native.Mathlib.Omega.{arith}
 use lib.ListN.{length}
 use lib.Ieee.{Float}
 use borrow.Author.Tests.{lt-ltb}
-use Rattle.std.specs.Prelude.{Option, Result, Ok, Err, IsErrAnd}
+use Rattle.std.specs.Prelude.{Option, Result, Ok, Err}
 use Rattle.std.specs.Result.{result_and}
-use Rattle.base.specs.Fault.{Fault}
 use Rattle.base.specs.declared.refusal.Refusal.{Refusal}
-use Rattle.base.specs.Fault.{fault, clear, unless, or_else, shown, fault_of}
+use Rattle.base.specs.Fault.{Fault, fault, clear, unless, or_else, shown, fault_of}
 use Rattle.base.specs.Refusal.{SWING, VALUE}
 use Rattle.base.proofs.Firsts.{Proper, or_stop, unless_proper}
 use Rattle.base.proofs.Refusals.{shown_number}
@@ -29,12 +28,6 @@ use Rattle.expression.specs.Value.{patterns}
 use Rattle.expression.specs.internal.Scan.{Reads, evaluated, worth}
 use Rattle.row_values.specs.Answer.{refused_value, value_fault}
 use Rattle.row_values.specs.internal.Run.{scanned_fault, part_value, part_fault, TooMany}
-
--- ---- the exit of a `?`
-
-pub exit_as : {T E : Type 0} (P : Result T E → Type 0) (r : Result T E) (e : E) → IsErrAnd r (λ y. y ≡ e) → P (Err e) → P r
-exit_as P (Ok x) e h p = absurd h
-exit_as P (Err y) e h p = rw h p
 
 -- ---- the first refusal so far, and one part's
 

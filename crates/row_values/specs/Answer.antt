@@ -1,8 +1,7 @@
 -- Document 02 (a): the answer, and what the two lent lists hold after the call.
 use Rattle.std.specs.Prelude.{ℕ, ◌+◌, Bool, cond, List, [], ◌∷◌, ◌++◌, leb, eqb, length, Result, Ok, Err, Float}
-use Rattle.base.specs.Fault.{Fault}
 use Rattle.base.specs.declared.refusal.Refusal.{Refusal}
-use Rattle.base.specs.Fault.{fault, clear, unless, or_else, Section, section, first_of, left, shown}
+use Rattle.base.specs.Fault.{Fault, fault, clear, unless, or_else, Section, section, first_of, left, shown}
 use Rattle.base.specs.Refusal.{SIZE, SHORT, POINT, SWING, MODEL, VALUE}
 use Rattle.float.specs.Number.{is_finite, zero64}
 use Rattle.nl.specs.Expr.{Expr, Terms, none, more, count}

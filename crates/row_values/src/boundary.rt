@@ -57,7 +57,7 @@ fn counts_of(words: &[u32], constants: usize, columns: usize) -> Counts
         constants,
         columns,
     };
-    row_counts(&file).unwrap_or(Counts { shared: 0, rows: 0 })
+    row_counts(&file).unwrap_or_default()
 }
 
 // How many shared parts a model file has; 0 where 17 or 2 refuses it.

@@ -1,6 +1,6 @@
 // Shared parts, rows and objective in the order of the file, each read and worked out in one go. The first refusal of a value is kept, and
 // reading goes on, because a wrong word further on is refused before it.
-ghost use Rattle.std.specs.Prelude.{◌≡◌, length, set};
+ghost use Rattle.std.specs.Prelude.{◌≡◌, ◌+◌, ◌<◌, length, set, Ok};
 ghost use Rattle.base.specs.Fault.{or_else, fault_of};
 ghost use Rattle.model_reading.specs.Reading.{shared_limit};
 ghost use Rattle.row_values.specs.declared.scan.ScanError.TheVariants.{Wrong};
@@ -43,41 +43,61 @@ pub struct Run {
     pub verdict: Result<(), Refusal>,
 }
 
+impl Run {
+    // None yet, from there on.
+    fn none(from: Cursor) -> Run
+        ensures { result ≡ record { count = 0; end = from; verdict = Ok tt } }
+    {
+        Run {
+            count: 0,
+            end: from,
+            verdict: Ok(()),
+        }
+    }
+
+    // One part more, whose beginning word stands where those before end.
+    fn add(self, part: Scanned) -> Run
+        requires { self.count < part.end.at }
+        ensures { (result.count ≡ self.count + 1) × (result.end ≡ part.end)
+            × (fault_of result.verdict ≡ or_else (fault_of self.verdict) (scanned_fault part self.end.at)) }
+    {
+        Run {
+            count: self.count + 1,
+            end: part.end,
+            verdict: first_fault(self.verdict, part, self.end.at),
+        }
+    }
+}
+
 // The shared parts, from the first word on; their values go into the array.
+//
+// A shared part reads what those before have written, and a full array ends the reading, where a row for which there is no room is read
+// all the same: one loop for both would ask at each part which it is.
 fn scan_shared(inputs: &Evaluation, array: &mut [f64]) -> Result<Run, ScanError>
     requires { length array.old ≡ shared_limit }
     ensures { let e = inputs.now in
         SharedScanned e.words.now e.constants.now e.point.now array.new result }
 {
     let file = inputs.file();
-    let mut count = 0;
-    let mut end = Cursor::START;
-    let mut verdict = Ok(());
-    while file.is_mark(Mark::Shared, count, end.at) {
-        if array.len() <= count {
+    let mut run = Run::none(Cursor::default());
+    // As in nl's read_run, the first word that begins no such part is the only exit.
+    while file.is_mark(Mark::Shared, run.count, run.end.at) {
+        if array.len() <= run.count {
             return Err(ScanError::Full);
         }
         let inputs = Evaluation {
-            shared: &array[..count],
+            shared: &array[..run.count],
             ..*inputs
         };
-        let part = inputs.scan(Cursor {
-            at: end.at + 1,
-            ..end
-        })?;
-        verdict = first_fault(verdict, part, end.at);
-        array[count] = part.value;
-        end = part.end;
-        count += 1;
+        let part = inputs.scan(file.past(run.end))?;
+        array[run.count] = part.value;
+        run = run.add(part);
     }
-    Ok(Run {
-        count,
-        end,
-        verdict,
-    })
+    Ok(run)
 }
 
 // Keeps row i's value where there is room for it.
+// By its place after a test: a `get_mut` would be no shorter, and its proof would need what is written through the borrow.
 fn keep(rows: &mut [f64], i: usize, value: f64)
     ensures { rows.new ≡ set rows.old i value }
 {
@@ -97,24 +117,13 @@ pub(crate) fn scan_rows(
         rows.old rows.new result }
 {
     let file = inputs.file();
-    let mut count = 0;
-    let mut end = from;
-    let mut verdict = Ok(());
-    while file.is_mark(Mark::Row, count, end.at) {
-        let row = inputs.scan(Cursor {
-            at: end.at + 1,
-            ..end
-        })?;
-        verdict = first_fault(verdict, row, end.at);
-        keep(rows, count, row.value);
-        end = row.end;
-        count += 1;
+    let mut run = Run::none(from);
+    while file.is_mark(Mark::Row, run.count, run.end.at) {
+        let row = inputs.scan(file.past(run.end))?;
+        keep(rows, run.count, row.value);
+        run = run.add(row);
     }
-    Ok(Run {
-        count,
-        end,
-        verdict,
-    })
+    Ok(run)
 }
 
 // The objective there, and the end word.
@@ -126,10 +135,7 @@ fn scan_end(inputs: &Evaluation, from: Cursor) -> Result<Scanned, WrongWord>
     if !file.is_mark(Mark::Objective, 0, from.at) {
         return Err(WrongWord { place: from.at });
     }
-    let objective = inputs.scan(Cursor {
-        at: from.at + 1,
-        ..from
-    })?;
+    let objective = inputs.scan(file.past(from))?;
     file.read_last(objective.end)?;
     Ok(objective)
 }
@@ -155,21 +161,21 @@ pub(crate) fn scan_file(
         FileScanned e.words.now e.constants.now e.point.now array.new
         rows.old rows.new result }
 {
-    let shared = scan_shared(inputs, array)?;
+    let shared_run = scan_shared(inputs, array)?;
     let inputs = Evaluation {
-        shared: &array[..shared.count],
+        shared: &array[..shared_run.count],
         ..*inputs
     };
-    let its_rows = scan_rows(&inputs, shared.end, rows)?;
-    let objective = scan_end(&inputs, its_rows.end)?;
-    let earlier = shared.verdict.and(its_rows.verdict);
+    let row_run = scan_rows(&inputs, shared_run.end, rows)?;
+    let objective = scan_end(&inputs, row_run.end)?;
+    let earlier = shared_run.verdict.and(row_run.verdict);
     Ok(File {
         counts: Counts {
-            shared: shared.count,
-            rows: its_rows.count,
+            shared: shared_run.count,
+            rows: row_run.count,
         },
-        rows_from: shared.end,
+        rows_from: shared_run.end,
         objective: objective.value,
-        verdict: first_fault(earlier, objective, its_rows.end.at),
+        verdict: first_fault(earlier, objective, row_run.end.at),
     })
 }

@@ -4,35 +4,28 @@
 
 ghost use Rattle.std.specs.Prelude.{◌≡◌, ◌++◌, ◌+◌, ◌≤◌, length, drop, Float};
 ghost use Rattle.base.specs.Loop.{tally};
-ghost use Rattle.base.specs.internal.Section.{Wrote};
+ghost use Rattle.base.specs.internal.Section.{Added, Ends};
 ghost use Rattle.network.specs.declared.records.Branch.{Branch};
 ghost use Rattle.network.specs.Network.{angled};
 ghost use Rattle.acopf.specs.Rows.{rows, row_lower, row_upper};
 ghost use Rattle.rows.specs.internal.Bounds.{angle_bounds, row_bounds};
 
 use acopf::Case;
-use base::{fill, put_if};
+use base::ListWriter;
 use network::{Branch, Tables};
 
 // The bounds of the angle differences, of the branches where they are active.
-fn write_angles<F: Fn(Branch) -> f64>(
-    tables: &Tables,
-    angle: F,
-    out: &mut [f64],
-    at: usize,
-) -> usize
+fn write_angles<F: Fn(Branch) -> f64>(out: &mut ListWriter<f64>, tables: &Tables, angle: F)
     requires callable { F.IsAlwaysCallable angle }
-    requires room { at + tally tables.now.layout.branches (angled tables.now.words.now) ≤ length out.old }
+    requires room { out.old.at + tally tables.now.layout.branches (angled tables.now.words.now) ≤ length out.old.out.now }
     ensures bounds { (f : Branch → Float) → ((branch : Branch) (v : Float) → F.post angle branch v → v ≡ f branch)
-        → Wrote out.old at (angle_bounds tables.now.words.now tables.now.numbers.now f tables.now.layout.branches) out.new result }
-    ensures next { result ≡ at + tally tables.now.layout.branches (angled tables.now.words.now) }
+        → Added out.old (angle_bounds tables.now.words.now tables.now.numbers.now f tables.now.layout.branches) out.new }
+    ensures next { Ends out.old (tally tables.now.layout.branches (angled tables.now.words.now)) out.new }
 {
-    let mut next = at;
     for b in 0..tables.layout.branches {
         let branch = tables.branch(b);
-        next = put_if(out, next, branch.angled, angle(branch));
+        out.push_if(branch.angled, angle(branch));
     }
-    next
 }
 
 // One of a row's two bounds: the branches' by `angle`, the margins' are `free`.
@@ -45,12 +38,12 @@ fn write_bounds<F: Fn(Branch) -> f64>(case: &Case, angle: F, free: f64, out: &mu
         out.new ≡ bounds ++ drop (length bounds) out.old }
 {
     let Case { tables, tallies } = case;
-    let balances = 2 * tables.layout.buses + tables.layout.references;
-    // Two a rated branch, and one a curve's segment.
-    let margins = 2 * tallies.rated + tallies.segments;
-    let angles_at = fill(out, 0, balances, 0.0);
-    let margins_at = write_angles(tables, angle, out, angles_at);
-    fill(out, margins_at, margins, free);
+    let mut bounds = ListWriter { out, at: 0 };
+    // The balances and the references.
+    bounds.fill(2 * tables.layout.buses + tables.layout.references, 0.0);
+    write_angles(&mut bounds, tables, angle);
+    // The margins: two a rated branch, and one a curve's segment.
+    bounds.fill(2 * tallies.rated + tallies.segments, free);
 }
 
 // Row lower, into the list's front part; the rest stays as it was.

@@ -28,6 +28,8 @@ fn blank_buses(tables: &Tables) -> Result<(), Refusal>
 }
 
 // q, c, c0 and the curve of a generator.
+// piecewise_cost's Curve is not below this crate, and would be taken apart again: the numbers are looked at from a place on, which the
+// refusal names. So q's place is counted back from the curve's, and q, c and c0 are not taken from the record.
 fn blank_generator(numbers: &[f64], generator: Generator) -> Result<(), Refusal>
     requires { (generator_numbers ≤ generator.curve) × (generator.curve + point_numbers * generator.points ≤ length numbers.now) }
     ensures { fault_of result ≡ or_else (blanks numbers.now (generator.curve - generator_numbers + 4) 3)

@@ -11,6 +11,7 @@ use base::{Reason, Refusal, unless};
 use network::{POINT_NUMBERS, Tables};
 
 // One curve, whose points start at `at`.
+// piecewise_cost's Curve is not below this crate, and would be taken apart again: the refusal names a power's place in the numbers.
 fn curve_at(numbers: &[f64], at: usize, points: usize) -> Result<(), Refusal>
     requires { at + point_numbers * points ≤ length numbers.now }
     ensures { fault_of result ≡ first (points - 1) (λ s.

@@ -23,7 +23,8 @@ fn far_below(p: f64, q: f64, s: f64) -> bool
     p * p + q * q < most && FLOOR < most && most < CEILING
 }
 
-// How far the larger of the apparent powers at a branch's ends is above s_max, and 0 where it is not.
+// How far the larger of the apparent powers at a branch's ends is above s_max, and 0 where it is not. The four flows come as floats, since
+// `Flows` is pi_model's, which stands above the network, and this crate needs no network.
 pub fn violation(p_from: f64, q_from: f64, p_to: f64, q_to: f64, s_max: f64) -> f64
     ensures { result ≡ maximum (maximum (hypotenuse p_from q_from) (hypotenuse p_to q_to) ⊖ s_max) zero64 }
 {

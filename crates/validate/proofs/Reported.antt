@@ -1,10 +1,10 @@
 -- The residuals' own function: each way out of it, and that its refusal is the first.
 use mathlib.Core.Path.{◌≡◌, refl, ap, sym, ◌∙◌}
-use mathlib.Core.List.{List, ◌∷◌, ◌++◌}
-use Prim.Native.Nat.{ℕ, ◌≤◌}
+use mathlib.Core.List.{List, [], ◌∷◌, ◌++◌}
+use Prim.Native.Nat.{ℕ, zero, suc, ◌≤◌, ◌<◌}
 use native.Mathlib.Omega.{arith}
-use lib.ListN.{length, drop, get_or}
-use lib.Ieee.{Float, nan}
+use lib.ListN.{length, drop, set}
+use lib.Ieee.{Float}
 use borrow.Author.Tests.{ne_eqb, leb-true}
 use Rattle.base.specs.Fault.{Fault}
 use Rattle.base.specs.declared.refusal.Refusal.{Refusal}
@@ -20,6 +20,12 @@ use Rattle.residuals.specs.Residuals.{residuals}
 use Rattle.validate.specs.Check.{Solved, solved, fault_report, fault_point, fault_swing, fault_derived, reported, report_sections, residuals_fault, report_after}
 use Rattle.validate.specs.internal.Verdict.{fault_given, Cleared}
 use Rattle.validate.proofs.Order.{common_give}
+
+-- what is written behind a front of n
+set_next : (n : ℕ) (l : List Float) (y : Float) → n < length l → set (drop n l) 0 y ≡ y ∷ drop (suc n) l
+set_next n [] y h = absurd (omega arith)
+set_next zero (x ∷ l) y h = refl
+set_next (suc n) (x ∷ l) y h = set_next n l y (omega arith)
 
 -- ---- the refusals
 
@@ -98,7 +104,7 @@ module _ (ws : List ℕ) (xs x : List Float) (solver : Float) where
     -- the nine numbers
     pub report_0 : (rs : List Float) (own : Float) (after : List Float) → clear ≡ fault_derived ws xs x solver (solved ws xs x solver)
         → rs ≡ (solved ws xs x solver).residuals → own ≡ (solved ws xs x solver).objective
-        → after ≡ get_or rs 0 nan ∷ get_or rs 1 nan ∷ get_or rs 2 nan ∷ get_or rs 3 nan ∷ get_or rs 4 nan ∷ get_or rs 5 nan ∷ get_or rs 6 nan ∷ get_or rs 7 nan ∷ own ∷ drop 9 before
+        → 9 ≤ length before → after ≡ set (rs ++ drop (length rs) before) 8 own
         → (clear ≡ residuals_fault ws xs x solver (length before)) × (after ≡ report_after ws xs x solver before)
     unfolding reported solved residuals
-    report_0 rs own after d q o a = (d ∙ whole, a ∙ rw (q, o, ← whole, ← d))
+    report_0 rs own after d q o h a = (d ∙ whole, a ∙ rw (q, set_next 8 before own h, o, ← whole, ← d))

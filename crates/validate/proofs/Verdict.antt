@@ -6,12 +6,14 @@ use native.Mathlib.Omega.{arith}
 use lib.ListN.{length, drop}
 use lib.Ieee.{Float}
 use borrow.Author.Tests.{eq-eqb, ne_eqb}
+use Rattle.std.specs.Prelude.{Result, Ok, Err, IfOk}
 use Rattle.base.specs.Fault.{Fault}
 use Rattle.base.specs.declared.refusal.Refusal.{Refusal}
-use Rattle.base.specs.Fault.{clear, shown, or_else}
+use Rattle.base.specs.Fault.{clear, shown, or_else, fault_of, left}
 use Rattle.base.specs.Refusal.{DERIVED}
 use Rattle.base.proofs.Refusals.{shown_number}
 use Rattle.base.proofs.Firsts.{Clear, or_go, or_stop, or_right}
+use Rattle.base.proofs.Left.{left_refused}
 use Rattle.base.proofs.Scans.{or_assoc}
 use Rattle.float.specs.Number.{zero64}
 use Rattle.network.specs.Network.{buses, branches}
@@ -23,7 +25,7 @@ use Rattle.derived.specs.Outputs.{flows, outputs, own_objective}
 use Rattle.derived.proofs.Outputs.{length_outputs}
 use Rattle.residuals.specs.Residuals.{residuals}
 use Rattle.validate.specs.Tolerances.{fault_tolerance, fault_residual}
-use Rattle.validate.specs.Check.{Answer, Solved, solved, fault_output, fault_point, fault_swing, fault_derived, check_fault, checked, outputs_after}
+use Rattle.validate.specs.Check.{Answer, Solved, solved, fault_output, fault_point, fault_swing, fault_derived, objective_of, check_fault, checked, outputs_after}
 use Rattle.validate.specs.internal.Verdict.{fault_lent, fault_given, Cleared, Answers, refusal}
 use Rattle.validate.proofs.Tolerances.{residual_spans, eight_given}
 use Rattle.validate.proofs.Order.{derived_spans, check_is}
@@ -156,7 +158,7 @@ module _ (ws : List ℕ) (xs x : List Float) (solver : Float) (ts before : List 
     derived_clear = ap (λ (f : Fault). f.number) (sym d)
 
     -- 16
-    pub says_16 : (r : Refusal) → shown r ≡ fault_residual ts rs → Answers ws xs x solver ts before before (record { fault = shown r; objective = zero64; residuals = rs })
+    says_16 : (r : Refusal) → shown r ≡ fault_residual ts rs → Answers ws xs x solver ts before before (record { fault = shown r; objective = zero64; residuals = rs })
     says_16 r e =
         let k : shown r ≡ fault_residual ts (solved ws xs x solver).residuals = rw q at e in (
           residual_answer ws xs x solver ts (length before) C (shown r) rs derived_clear k (shown_number r) q,
@@ -164,7 +166,7 @@ module _ (ws : List ℕ) (xs x : List Float) (solver : Float) (ts before : List 
         )
 
     -- accepted
-    pub says_0 : (l after : List Float) (own : Float) → clear ≡ fault_residual ts rs → l ≡ (solved ws xs x solver).outputs → own ≡ (solved ws xs x solver).objective
+    says_0 : (l after : List Float) (own : Float) → clear ≡ fault_residual ts rs → l ≡ (solved ws xs x solver).outputs → own ≡ (solved ws xs x solver).objective
         → after ≡ l ++ drop (length l) before → Answers ws xs x solver ts before after (record { fault = clear; objective = own; residuals = rs })
     says_0 l after own e o w a =
         let k : clear ≡ fault_residual ts (solved ws xs x solver).residuals = rw q at e in
@@ -172,3 +174,11 @@ module _ (ws : List ℕ) (xs x : List Float) (solver : Float) (ts before : List 
           accepted_answer ws xs x solver ts (length before) C clear rs own derived_clear k refl q w,
           a ∙ outputs_left ws xs x solver ts l before o (ap (λ (f : Fault). f.number) (sym whole)),
         )
+
+    -- 16, or accepted
+    pub says_rest : (v : Result Float Refusal) (l after : List Float) (own : Float) → fault_of v ≡ fault_residual ts rs → IfOk v (λ o. o ≡ own)
+        → l ≡ (solved ws xs x solver).outputs → own ≡ (solved ws xs x solver).objective → after ≡ left (fault_residual ts rs) l before
+        → Answers ws xs x solver ts before after (record { fault = fault_of v; objective = objective_of v; residuals = rs })
+    says_rest (Ok o) l after own e i p w a = says_0 l after o e p (i ∙ w) (a ∙ rw (eq-eqb (fault_residual ts rs).number 0 (ap (λ (f : Fault). f.number) (sym e))))
+    says_rest (Err r) l after own e i p w a =
+        rw (a ∙ left_refused (fault_residual ts rs) l before (λ z. shown_number r (ap (λ (f : Fault). f.number) e ∙ z))) (says_16 r e)

@@ -17,10 +17,7 @@ use factor::judge;
 pub extern "C" fn fervoulk_outputs(words: &[u32], numbers: &[f64]) -> usize
     ensures { result ≡ outputs_needed words.now numbers.now }
 {
-    match judge(words, numbers) {
-        Ok(case) => output_count(&case.tables),
-        Err(_) => 0,
-    }
+    judge(words, numbers).map_or(0, |clear| output_count(&clear.case.tables))
 }
 
 // The refusal's number times 2 to the power 32 plus its place. What is handed in are doubles, as f64 are: with it, the number 0 says what
@@ -63,7 +60,7 @@ pub extern "C" fn fervoulk_objective(
 fn residual(residuals: [f64; 8], i: usize) -> f64
     ensures { result ≡ residual_at residuals i }
 {
-    if i < 8 { residuals[i] } else { 0.0 }
+    residuals.get(i).copied().unwrap_or(0.0)
 }
 
 // Residual i, from 0; an index past 7 answers 0.

@@ -30,9 +30,6 @@ impl Checked {
     pub fn objective(&self) -> f64
         ensures { result ≡ objective_of self.now.verdict }
     {
-        match self.verdict {
-            Ok(objective) => objective,
-            Err(_) => 0.0,
-        }
+        self.verdict.unwrap_or(0.0)
     }
 }

@@ -8,14 +8,8 @@ use crate::tolerance::tolerance_fault;
 use acopf::Case;
 use base::{Reason, Refusal, unless};
 use derived::Candidate;
+pub(crate) use derived::output_count;
 use network::Tables;
-
-// How many outputs an accepted point has.
-pub(crate) fn output_count(tables: &Tables) -> usize
-    ensures { result ≡ 2 * tables.now.layout.buses + 4 * tables.now.layout.branches }
-{
-    2 * tables.layout.buses + 4 * tables.layout.branches
-}
 
 // 12, of an output list of that length, then 20.
 pub(crate) fn lent_fault(tables: &Tables, lent: usize, tolerances: &[f64]) -> Result<(), Refusal>

@@ -4,31 +4,26 @@ ghost use Rattle.base.specs.Fault.{fault_of};
 ghost use Rattle.validate.specs.Check.{fault_report, residuals_fault, report_after};
 ghost use Rattle.validate.specs.internal.Verdict.{Cleared};
 
-use crate::measure::measure;
-use crate::point::{candidate_of, output_count};
+use crate::measure::{Asked, measure};
+use crate::point::candidate_of;
 use base::{Reason, Refusal, unless};
-use derived::{Candidate, MOST_OUTPUTS};
+use derived::MOST_OUTPUTS;
 use factor::judge;
 use lists::copy_front;
 
 // 15 and the nine numbers, where 1 to 14 are clear. The scratch list is an array of its own: nothing lent serves as scratch.
-fn settle(candidate: &Candidate, solver: f64, report: &mut [f64]) -> Result<(), Refusal>
-    requires { (9 ≤ length report.old)
-        × (let ws = candidate.now.tables.words.now in let xs = candidate.now.tables.numbers.now in let x = candidate.now.point.now in
-        Cleared ws xs x solver (fault_report ws xs x solver (length report.old))) }
-    ensures { let ws = candidate.now.tables.words.now in let xs = candidate.now.tables.numbers.now in
-        let x = candidate.now.point.now in let before = report.old in
+fn settle(asked: &Asked, report: &mut [f64]) -> Result<(), Refusal>
+    requires { let c = asked.now.candidate in let ws = c.tables.words.now in let xs = c.tables.numbers.now in
+        let x = c.point.now in let solver = asked.now.solver in
+        (9 ≤ length report.old) × Cleared ws xs x solver (fault_report ws xs x solver (length report.old)) }
+    ensures { let c = asked.now.candidate in let ws = c.tables.words.now in let xs = c.tables.numbers.now in
+        let x = c.point.now in let solver = asked.now.solver in let before = report.old in
         (fault_of result ≡ residuals_fault ws xs x solver (length before)) × (report.new ≡ report_after ws xs x solver before) }
 {
     let mut scratch = [0.0; MOST_OUTPUTS];
-    let count = output_count(&candidate.tables);
-    let measured = measure(candidate, solver, &mut scratch[..count])?;
-    let r = measured.residuals;
-    let own = measured.objective;
-    copy_front(
-        &[r[0], r[1], r[2], r[3], r[4], r[5], r[6], r[7], own],
-        report,
-    );
+    let measured = measure(asked, &mut scratch)?;
+    copy_front(&measured.residuals, report);
+    report[8] = measured.objective;
     Ok(())
 }
 
@@ -46,8 +41,12 @@ pub fn residuals(
         (fault_of result ≡ residuals_fault ws xs x solver_objective (length before))
         × (report.new ≡ report_after ws xs x solver_objective before) }
 {
-    let case = judge(words, numbers)?;
+    let case = judge(words, numbers)?.case;
     unless(9 <= report.len(), Reason::Short, 1)?;
     let candidate = candidate_of(&case, point)?;
-    settle(&candidate, solver_objective, report)
+    let asked = Asked {
+        candidate,
+        solver: solver_objective,
+    };
+    settle(&asked, report)
 }

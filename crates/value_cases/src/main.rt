@@ -2,30 +2,19 @@
 // prints how many there are and for how many an answer or a list is another.
 #![tactic(auto)]
 
-ghost use Rattle.std.specs.Prelude.{◌≡◌, ◌≤◌, ◌<◌, length};
-ghost use Rattle.std.specs.Iterator.{at_most};
+ghost use Rattle.std.specs.Prelude.{◌<◌};
 
 use base::{Reason, Refusal};
-use little_endian::{Record, number_at};
+use little_endian::{Record, Records, has_front};
 use model_reading::{Counts, row_counts};
 use nl::ModelFile;
 use row_values::{RowValues, row_values};
 use std::alloc::{AllocError, Global};
+use std::num::NonZeroUsize;
 use std::{fs, io};
 
 // What the lists hold that are lent.
 const LENT: f64 = 5.0;
-
-// What a case says, added up in its word 8.
-const OBJECTIVE: u32 = 1;
-
-const SHARED: u32 = 2;
-
-const ROWS: u32 = 4;
-
-fn says(case: Record, what: u32) -> bool {
-    case.word(8) & what != 0
-}
 
 // The record from word i on.
 fn from_word(record: Record, i: usize) -> Record
@@ -34,19 +23,6 @@ fn from_word(record: Record, i: usize) -> Record
     Record {
         bytes: record.bytes.get(4 * i..).unwrap_or(&[]),
     }
-}
-
-// Double i of a record of doubles; 0 past the data.
-fn double(record: Record, i: usize) -> f64 {
-    if i < record.bytes.len() / 8 {
-        number_at(record.bytes, 8 * i)
-    } else {
-        0.0
-    }
-}
-
-fn same_bits(x: f64, y: f64) -> bool {
-    float::to_bits(x) == float::to_bits(y)
 }
 
 // A list of a case. Of its middle only what repeats is stored, between its head and the rest.
@@ -97,8 +73,9 @@ impl<'a> List<'a> {
         }
     }
 
-    fn value(self, k: u32) -> f64 {
-        double(self.stored, self.place(k, 1).0)
+    // The bits of value k.
+    fn bits(self, k: u32) -> u64 {
+        self.stored.bits(self.place(k, 1).0)
     }
 
     fn words(self, alloc: Global) -> Result<Vec<u32>, AllocError> {
@@ -106,37 +83,39 @@ impl<'a> List<'a> {
     }
 
     fn values(self, alloc: Global) -> Result<Vec<f64>, AllocError> {
-        (0..self.length).map(|k| self.value(k)).collect(alloc)
+        (0..self.length)
+            .map(|k| float::from_bits(self.bits(k)))
+            .collect(alloc)
     }
 }
 
-// Whether the list has the stored values in front, and the rest as it was lent.
-fn has_front(stored: &[f64], list: &[f64]) -> bool {
-    match list.split_at_checked(stored.len()) {
-        Some((front, rest)) => {
-            front.iter().zip(stored).all(|(x, y)| same_bits(*x, *y))
-                && rest.iter().all(|x| *x == LENT)
-        }
-        None => false,
-    }
+// The objective's bits, if the case says them: its word 8 adds up which of objective, shared parts and rows it says.
+fn objective(case: Record) -> Option<u64> {
+    (case.word(8) & 1 != 0).then(|| case.bits(3))
 }
 
-// Whether the list is the one whose place is the case's word i, where the case says it.
-fn list_right(
-    alloc: Global,
-    case: Record,
-    what: u32,
-    i: usize,
-    list: &[f64],
-) -> Result<bool, AllocError> {
-    let stored = List::of(case, i).values(alloc)?;
-    Ok(!says(case, what) || has_front(&stored, list))
+// The list of shared parts, if the case says it.
+fn shared(case: Record) -> Option<List> {
+    (case.word(8) & 2 != 0).then(|| List::of(case, 14))
+}
+
+// The list of rows, if the case says it.
+fn rows(case: Record) -> Option<List> {
+    (case.word(8) & 4 != 0).then(|| List::of(case, 15))
+}
+
+// Whether the list is the one that the case says, if it says one.
+fn list_right(alloc: Global, said: Option<List>, list: &[f64]) -> Result<bool, AllocError> {
+    let Some(said) = said else {
+        return Ok(true);
+    };
+    let stored: Vec<u64> = (0..said.length).map(|k| said.bits(k)).collect(alloc)?;
+    Ok(has_front(list, &stored, LENT))
 }
 
 // The objective, where the case says it, and the counts of what is written.
 fn values_right(case: Record, values: RowValues) -> bool {
-    let objective_right = same_bits(values.objective, double(case, 3));
-    (!says(case, OBJECTIVE) || objective_right)
+    objective(case).map_or(true, |bits| float::to_bits(values.objective) == bits)
         && values.shared == case.number(9)
         && values.rows == case.number(10)
 }
@@ -155,7 +134,7 @@ fn counts_right(case: Record, answer: Result<Counts, Refusal>) -> bool {
     } else {
         (0, 0)
     };
-    let counts = answer.unwrap_or(Counts { shared: 0, rows: 0 });
+    let counts = answer.unwrap_or_default();
     base::shown(answer) == shown
         && counts.shared == case.number(9)
         && counts.rows == case.number(10)
@@ -165,8 +144,8 @@ fn right(alloc: Global, case: Record) -> Result<bool, AllocError> {
     let words = List::of(case, 11).words(alloc)?;
     let constants = List::of(case, 12).values(alloc)?;
     let point = List::of(case, 13).values(alloc)?;
-    let mut shared = vec![in alloc; LENT; case.number(2)]?;
-    let mut rows = vec![in alloc; LENT; case.number(3)]?;
+    let mut shared_list = vec![in alloc; LENT; case.number(2)]?;
+    let mut row_list = vec![in alloc; LENT; case.number(3)]?;
     let file = ModelFile {
         words: &words,
         constants: constants.len(),
@@ -178,43 +157,23 @@ fn right(alloc: Global, case: Record) -> Result<bool, AllocError> {
         &constants,
         case.number(1),
         &point,
-        &mut shared,
-        &mut rows,
+        &mut shared_list,
+        &mut row_list,
     );
     Ok(
         counts_right(case, counts)
             && answer_right(case, answer)
-            && list_right(alloc, case, SHARED, 14, &shared)?
-            && list_right(alloc, case, ROWS, 15, &rows)?,
+            && list_right(alloc, shared(case), &shared_list)?
+            && list_right(alloc, rows(case), &row_list)?,
     )
-}
-
-// The records of the data, up to a length of 0.
-#[derive(Drop)]
-struct Records<'a> {
-    data: &'a [u8],
-}
-
-impl<'a> Iterator for Records<'a> {
-    type Item = Record<'a>;
-
-    ghost remaining = { λ s. at_most (length s.data.now) };
-
-    fn next(&mut self) -> Option<Record<'a>> {
-        let record = Record { bytes: self.data };
-        let size = record.number(0);
-        if self.data.is_empty() || size == 0 {
-            return None;
-        }
-        self.data = self.data.get(4 * size..).unwrap_or(&[]);
-        Some(record)
-    }
 }
 
 fn main(rt: HostRuntime) -> io::Result<()> {
     let bytes = fs::read(&rt, "cases")?;
+    // Three programs end in these lines: little_endian, which they share, has no heap.
     let answers: Vec<bool> = Records {
-        data: bytes.as_slice(),
+        bytes: bytes.as_slice(),
+        size: |case: Record| NonZeroUsize::new(4 * case.number(0)),
     }
     .map(|case| right(rt.alloc(), case))
     .try_collect(rt.alloc())?;

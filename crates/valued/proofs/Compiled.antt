@@ -10,6 +10,7 @@ use lib.Dec.{ltb}
 use lib.ListN.{length, length-map, get_or, take, get_or-eq_default}
 use lib.Ieee.{Float, nan}
 use borrow.Author.Tests.{ltb-true, ltb-false}
+use Rattle.std.proofs.lemmas.List.{get_or_default}
 use Rattle.base.specs.Fault.{or_else}
 use Rattle.base.specs.Refusal.{SIZE, SHORT, POINT, SWING, MODEL, VALUE}
 use Rattle.base.proofs.Left.{left_front}
@@ -31,7 +32,6 @@ use Rattle.reading.specs.Written.{front_words, front_bits}
 use Rattle.reading.proofs.Reading.{compiled_reads}
 use Rattle.model_reading.specs.Reading.{shared_limit, yields}
 use Rattle.model_reading.proofs.Reading.{yields_exactly}
-use Rattle.expression.proofs.Lists.{any_default}
 use Rattle.expression.specs.Value.{value}
 use Rattle.lists.specs.Finite.{point_fault}
 use Rattle.row_values.specs.Answer.{values_fault, room_fault, refusal, all_shared, all_rows, objective_value}
@@ -138,5 +138,5 @@ pub check_angles : (ws : List ℕ) (point : List Float) → ((i : ℕ) → i < b
 check_angles ws point h i l = go (ltb i (length point)) refl
   where
     go : (b : Bool) → ltb i (length point) ≡ b → angle_right (get_or point i zero64) ≡ true
-    go true q = ap angle_right (any_default point i zero64 nan (ltb-true i (length point) q)) ∙ h i l
+    go true q = ap angle_right (get_or_default point i zero64 nan (ltb-true i (length point) q)) ∙ h i l
     go false q = absurd (nan_not_right (ap angle_right (sym (get_or-eq_default point nan (ltb-false i (length point) q))) ∙ h i l))

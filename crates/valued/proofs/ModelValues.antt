@@ -5,6 +5,7 @@ use Prim.Native.Nat.{ℕ, ◌+◌, ◌*◌, ◌<◌}
 use native.Mathlib.Omega.{arith}
 use lib.ListN.{length, get_or, get_or-map, length-map, length-append}
 use lib.Ieee.{Float}
+use Rattle.std.proofs.lemmas.List.{get_or_default}
 use Rattle.base.specs.Loop.{table}
 use Rattle.base.proofs.Loops.{AllFrom, Block, block_table, block_left, block_right, length_table}
 use Rattle.float.specs.Number.{zero64}
@@ -13,7 +14,6 @@ use Rattle.network.specs.Network.{buses, references, referred, va_column}
 use Rattle.acopf.specs.Build.{terms}
 use Rattle.acopf.specs.Rows.{Row, p_balance_row, q_balance_row, reference_row, rows}
 use Rattle.acopf.specs.Model.{model}
-use Rattle.expression.proofs.Lists.{any_default}
 use Rattle.expression.specs.Value.{value, values_of}
 use Rattle.valued.specs.Spared.{AnglesRight, RowsSpared, Spared}
 use Rattle.valued.proofs.TrigFree.{RowInRange, rows_in, objective_in}
@@ -35,7 +35,7 @@ module _ (ws : List ℕ) (xs point values : List Float) where
   pub row_value : (r : ℕ) (d : Row) → r < length (rows ws xs) → get_or (values_of point values (model ws xs).rows) r zero64 ≡ of_row (get_or (rows ws xs) r d)
   row_value r d h =
       ap (λ l. get_or l r zero64) row_values_is
-      ∙ any_default (map of_row (rows ws xs)) r zero64 (of_row d) (omega (arith, h, length-map (rows ws xs) of_row)) ∙ get_or-map of_row (rows ws xs) r d
+      ∙ get_or_default (map of_row (rows ws xs)) r zero64 (of_row d) (omega (arith, h, length-map (rows ws xs) of_row)) ∙ get_or-map of_row (rows ws xs) r d
 
   -- the references' rows follow the two balances of each bus
   reference_rows : Block (rows ws xs) (buses ws + buses ws) (references ws) (reference_row ws xs)

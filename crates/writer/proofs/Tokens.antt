@@ -1,5 +1,5 @@
 -- Laws of tokens: what they say of words, constants and parts, and writers one after the other.
-use Prim.Native.Nat.{ℕ, zero, suc, ◌+◌, ◌-◌, ◌<◌, ◌≤◌}
+use Prim.Native.Nat.{ℕ, zero, suc, ◌+◌, ◌<◌}
 use native.Mathlib.Nat.{add-zero, zero-add, le_of_suc-le-suc, not-suc-le-zero, eq-or-lt_of_le}
 use native.Mathlib.Numerals.{add-one}
 use native.Mathlib.Omega.{arith}
@@ -7,7 +7,7 @@ use mathlib.Core.Path.{◌≡◌, refl, sym, ap, subst, ◌∙◌}
 use mathlib.Core.Logic.{⊎_elim}
 use mathlib.Core.Bool.{cond}
 use mathlib.Core.List.{List, [], ◌∷◌, ◌++◌, map, append_assoc, append-nil}
-use lib.ListN.{length, take, drop, get_or, length-append, length-map}
+use lib.ListN.{length, get_or, length-append, length-map}
 use lib.Dec.{T, ltb}
 use lib.Ieee.{Float, binary64, of_bits, fits, nan}
 use lib.Ieee.Bits.{of_bits-to_bits}
@@ -19,11 +19,7 @@ use Rattle.acopf.specs.Build.{terms}
 use Rattle.writer.specs.declared.writer.ModelWriter.{ModelWriter}
 use Rattle.base.specs.internal.Section.{Wrote}
 use Rattle.writer.specs.internal.Tokens.{Token, fixed, numbered, begins, words_from, numbers_of, begun, tokens, tokens_of, list_tokens, part_tokens, through_bits, Put, Written, Room}
-use Rattle.base.proofs.Sections.{then, wrote_none}
-use Rattle.std.proofs.lemmas.Slice.{put_mid-paste}
-use Rattle.std.proofs.lemmas.List.Edits.{paste_all, sets-eq}
-use borrow.Rule.Slice.PartMut.{put_mid}
-use lib.Seq.{length-sets}
+use Rattle.base.proofs.Sections.{then, wrote_none, wrote_length}
 
 -- ---- tokens of a list
 
@@ -54,18 +50,6 @@ words_append k i (numbered x ∷ u) v =
 words_append k i (begins x ∷ u) v =
     let e : i + 1 + begun u ≡ i + suc (begun u) = omega arith in
     ap (λ (l : List ℕ). word x i ∷ l) (words_append k (i + 1) u v ∙ ap (λ (n : ℕ). words_from k (i + 1) u ++ words_from (k + length (numbers_of u)) n v) e)
-
--- ---- a section copied into a list
-
-pub wrote_mid : {A : Type 0} (l : List A) {s t : List A} (to : ℕ) → t ≡ s → to + length s ≤ length l
-    → Wrote l to s (put_mid to (to + length s - to) l t) (to + length s)
-wrote_mid l {s} {t} to e h = record {
-  holds = put_mid-paste to (to + length s - to) l t s (length s) e (omega arith) refl ∙ paste_all l to s (length s) refl ∙ sym (sets-eq s l to h ∙ append_assoc (take to l) s (drop (to + length s) l));
-  follows = refl;
-}
-
-pub wrote_length : {A : Type 0} {l m s : List A} {to k : ℕ} → Wrote l to s m k → length m ≡ length l
-wrote_length {A} {l} {m} {s} {to} w = ap length w.holds ∙ length-sets l to s
 
 -- ---- one writing after the other
 

@@ -4,5 +4,5 @@
 mod word;
 mod writer;
 
-pub use word::WordKind;
+pub use word::{WordKind, model_word};
 pub use writer::ModelWriter;

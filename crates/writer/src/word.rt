@@ -5,7 +5,8 @@ ghost use Rattle.nl.specs.Kinds.{number_of, mark_number};
 
 use nl::{Kind, Mark};
 
-fn packed(kind: u32, load: usize) -> u32
+// For any number of a kind: the files here have 14 kinds of the 16 that 4 bits can name.
+pub fn model_word(kind: u32, load: usize) -> u32
     requires { (kind < 16) × (load < 268435456) }
     ensures { result ≡ word kind load }
 {
@@ -21,11 +22,12 @@ pub trait WordKind {
         ensures { result ≡ word (number self) load };
 }
 
+// Not provided by the trait: it would ask for the kind's number, a method that both would write in its place.
 impl WordKind for Kind {
     ghost number = { number_of };
 
     fn word(self, load: usize) -> u32 {
-        packed(self.number(), load)
+        model_word(self.number(), load)
     }
 }
 
@@ -33,6 +35,6 @@ impl WordKind for Mark {
     ghost number = { mark_number };
 
     fn word(self, load: usize) -> u32 {
-        packed(self.number(), load)
+        model_word(self.number(), load)
     }
 }

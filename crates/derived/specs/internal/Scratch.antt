@@ -1,5 +1,5 @@
 -- What the check's scratch holds: each bus's voltage in one list, and in another the outputs in their order.
-use Rattle.std.specs.Prelude.{List, ℕ, ◌+◌, ◌*◌, ◌<◌, ◌≡◌, get_or, Float}
+use Rattle.std.specs.Prelude.{List, ℕ, ◌+◌, ◌*◌, ◌<◌, ◌≤◌, ◌≡◌, length, get_or, Float}
 use Rattle.std.specs.Float.{nan}
 use Rattle.std.specs.Float.Ieee.{neg}
 use Rattle.float.specs.Number.{◌⊕◌, ◌⊖◌, ◌⊗◌}
@@ -9,7 +9,7 @@ use Rattle.pi_model.specs.declared.complex.Complex.{Complex}
 use Rattle.pi_model.specs.declared.flow.Flows.{Flows}
 use Rattle.pi_model.specs.Flow.{complex, voltage}
 use Rattle.derived.specs.internal.Agree.{At, PerBus}
-use Rattle.derived.specs.Outputs.{vm, p_injection, q_injection, p_from, q_from, p_to, q_to}
+use Rattle.derived.specs.Outputs.{vm, p_injection, q_injection, flows, p_from, q_from, p_to, q_to}
 
 -- the list holds each bus's voltage
 abbrev pub VoltagesAre : List ℕ → List Float → Layout → List Complex → Type 0
@@ -40,3 +40,9 @@ pub record FlowsAre (fs : List (List Float)) (n m count : ℕ) (l : List Float) 
   pub q_from_is : At count (λ b. 2 * n + m + b) (q_from fs) l
   pub p_to_is : At count (λ b. 2 * n + 2 * m + b) (p_to fs) l
   pub q_to_is : At count (λ b. 2 * n + 3 * m + b) (q_to fs) l
+
+-- the list's front is the outputs of the point x
+pub record Filled (ws : List ℕ) (xs x : List Float) (l : Layout) (list : List Float) : Type 0 where
+  pub room : 2 * l.buses + 4 * l.branches ≤ length list
+  pub injections_are : InjectionsAre ws xs x l list
+  pub flows_are : FlowsAre (flows ws xs x) l.buses l.branches l.branches list

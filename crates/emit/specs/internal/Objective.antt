@@ -1,5 +1,5 @@
 -- The objective over plain numbers.
-use Rattle.std.specs.Prelude.{ℕ, Bool, cond, List, [], ◌∷◌, ◌++◌, eqb, Float}
+use Rattle.std.specs.Prelude.{ℕ, Bool, cond, List, [], ◌∷◌, ◌++◌, eqb, Float, Option, Some, None}
 use Rattle.std.specs.Float.{binary64}
 use Rattle.std.specs.Float.Ieee.{to_bits}
 use Rattle.base.specs.Loop.{each}
@@ -13,6 +13,11 @@ use Rattle.writer.specs.internal.Tokens.{Token, fixed, numbered, list_tokens}
 -- a quadratic cost of the column c: half the square's factor, and the linear one
 abbrev pub cost_of : ℕ → Float → Float → Expr
 cost_of c half linear = sum (scaled half (square (column c)) ∷ scaled linear (column c) ∷ [])
+
+-- a generator's term: its epigraph column, or its quadratic cost where it has none
+abbrev pub term_of : Option ℕ → Expr → Expr
+term_of (Some epigraph) quadratic = column epigraph
+term_of None quadratic = quadratic
 
 abbrev pub cost_tokens : List ℕ → List Float → ℕ → List Token
 cost_tokens ws xs g = list_tokens (cost_term ws xs g ∷ [])

@@ -1,12 +1,14 @@
 -- A bus and a generator by value, where a loop over the generators stands, and what reading a record gives.
 use Rattle.std.specs.Prelude.{ℕ, ◌+◌, ◌*◌, ◌≤◌, ◌<◌, ◌≡◌, Bool, List, length, Float, Option, Some, None}
+use Rattle.std.specs.Bool.{then_some}
 use Rattle.network.specs.declared.layout.Layout.{Layout}
 use Rattle.network.specs.declared.records.Bus.{Bus}
 use Rattle.network.specs.declared.records.Generator.{Generator}
 use Rattle.network.specs.declared.records.Branch.{Branch}
 use Rattle.network.specs.declared.layout.Cursor.{Cursor}
+use Rattle.network.specs.declared.sizes.Sizes.{Sizes}
 use Rattle.network.specs.Limits.{generator_numbers, point_numbers, most_points}
-use Rattle.network.specs.Network.{number, vm_bounded, bus_of, capable, points, curved, bus_at, generator_at}
+use Rattle.network.specs.Network.{number, buses, generators, branches, references, vm_bounded, bus_of, capable, points, curved, bus_at, generator_at, epigraph_column}
 use Rattle.network.specs.Layout.{branch_record}
 
 -- a bus or generator by what its word says and the place of its first number
@@ -23,12 +25,12 @@ bus_at_place xs at bounded = record {
   vm = number xs (at + 7);
 }
 
-abbrev pub generator_at_place : List Float → ℕ → ℕ → Bool → ℕ → Bool → Generator
-generator_at_place xs at bus bounded points curved = record {
+abbrev pub generator_at_place : List Float → ℕ → ℕ → Bool → ℕ → Option ℕ → Generator
+generator_at_place xs at bus bounded points epigraph = record {
   bus = bus;
   bounded = bounded;
   points = points;
-  curved = curved;
+  epigraph = epigraph;
   curve = at + generator_numbers;
   p_min = number xs at;
   p_max = number xs (at + 1);
@@ -45,8 +47,19 @@ generator_at_place xs at bus bounded points curved = record {
 abbrev pub bus_record : List ℕ → List Float → ℕ → Bus
 bus_record ws xs i = bus_at_place xs (bus_at ws i) (vm_bounded ws i)
 
+-- generator g's epigraph column, where it has one
+abbrev pub epigraph_of : List ℕ → ℕ → Option ℕ
+epigraph_of ws g = then_some (curved ws g) (epigraph_column ws g)
+
 abbrev pub generator_record : List ℕ → List Float → ℕ → Generator
-generator_record ws xs g = generator_at_place xs (generator_at ws g) (bus_of ws g) (capable ws g) (points ws g) (curved ws g)
+generator_record ws xs g = generator_at_place xs (generator_at ws g) (bus_of ws g) (capable ws g) (points ws g) (epigraph_of ws g)
+
+-- these are how many words of each kind there are
+pub record SizesOf (ws : List ℕ) (s : Sizes) : Type 0 where
+  pub buses : s.buses ≡ buses ws
+  pub generators : s.generators ≡ generators ws
+  pub branches : s.branches ≡ branches ws
+  pub references : s.references ≡ references ws
 
 -- the cursor stands at a generator, or at the generators' end
 pub record Standing (ws : List ℕ) (l : Layout) (c : Cursor) : Type 0 where

@@ -3,7 +3,7 @@ use mathlib.Core.Path.{ap, sym, ◌∙◌}
 use Rattle.base.specs.Fault.{shown}
 use Rattle.nl.specs.Finder.{refusal_of}
 use Rattle.row_values.specs.internal.Run.{Settled}
-use Rattle.row_values.proofs.Passes.{exit_as}
+use Rattle.expression.proofs.Scans.{exit_as}
 use Rattle.row_values.proofs.Answers.{counts_refuse, wrong_refuses, room_refuses, point_refuses, length_refuses, counts_pass, verdict_refuses, accepts}
 use Rattle.row_values.proofs.settled.Goals as goal
 

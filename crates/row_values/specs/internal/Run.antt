@@ -1,9 +1,8 @@
 -- A file read and worked out in one go, part by part, by the places of their beginning words.
 use Rattle.std.specs.Prelude.{ℕ, zero, suc, ◌≤◌, ◌<◌, ◌≡◌, List, [], ◌∷◌, ◌++◌, length, take, drop, Float}
 use Rattle.std.specs.Prelude.{Option, None, Result, Ok, Err, IsErr}
-use Rattle.base.specs.Fault.{Fault}
 use Rattle.base.specs.declared.refusal.Refusal.{Refusal}
-use Rattle.base.specs.Fault.{clear, or_else, shown, fault_of}
+use Rattle.base.specs.Fault.{Fault, clear, or_else, shown, fault_of}
 use Rattle.nl.specs.declared.reader.Cursor.{Cursor}
 use Rattle.nl.specs.declared.reader.Parts.{Parts}
 use Rattle.nl.specs.declared.reader.Span.{Span}

@@ -11,17 +11,17 @@ loop-generator-init c =
     let e = c.into_iter-generator-iterator.ensures.into_iter_gives in
     (ap (λ s. s.tables) e ∙ items.0, rw (e, items.1) (sym (costs_none c.args.tables.now.words.now c.args.tables.now.numbers.now)))
 
-pub loop-generator-preserved-then-tables-generator : goal.loop-generator-preserved-then-tables-generator
-loop-generator-preserved-then-tables-generator c =
+pub loop-generator-preserved-then-tables-curved : goal.loop-generator-preserved-then-tables-curved
+loop-generator-preserved-then-tables-curved c =
     let inv = c.loop-generator.invariant in
     let step = rw inv.0 at c.in-Some.ensures.steps.0 in
-    (c.in-Some.ensures.steps.1 ∙ inv.0, rw step.3 (costs_turn c.args.tables.now.laid step.2 (rw c.if-tables-generator.true) inv.1))
+    (c.in-Some.ensures.steps.1 ∙ inv.0, rw step.3 (costs_turn c.args.tables.now.laid step.2 c.curved.ensures (rw c.if-tables-curved.true) inv.1))
 
 pub loop-generator-preserved : goal.loop-generator-preserved
 loop-generator-preserved c =
     let inv = c.loop-generator.invariant in
     let step = rw inv.0 at c.in-Some.ensures.steps.0 in
-    (c.in-Some.ensures.steps.1 ∙ inv.0, rw step.3 (costs_turn c.args.tables.now.laid step.2 (rw c.if-tables-generator.false) inv.1))
+    (c.in-Some.ensures.steps.1 ∙ inv.0, rw step.3 (costs_turn c.args.tables.now.laid step.2 c.curved.ensures (rw c.if-tables-curved.false) inv.1))
 
 pub returns : goal.returns
 unfolding objective_constant

@@ -1,9 +1,9 @@
-use Rattle.std.proofs.Common.{◌≡◌, length}
-use Rattle.base.specs.internal.Section.{Wrote}
+use Rattle.std.proofs.Common.{◌≡◌}
+use Rattle.base.specs.internal.Section.{Added}
 use Rattle.columns.proofs.Front.{epigraphs}
 use Rattle.columns.proofs.sections.epigraph_section.Given as goal
 
 abbrev pub invariant-loop-generator : goal.invariant-loop-generator
 invariant-loop-generator l =
-    (l.generator-iterator.tables ≡ l.tables) × (length l.out ≡ length l.initial.out)
-    × Wrote l.initial.out l.to (epigraphs l.tables.words.now l.tables.numbers.now l.generator-iterator.cursor.index) l.out l.next
+    (l.generator-iterator.tables ≡ l.tables)
+    × Added l.initial.out (epigraphs l.tables.words.now l.tables.numbers.now l.generator-iterator.cursor.index) l.out

@@ -3,5 +3,5 @@ use Rattle.compile.proofs.decide.accepted.Goals as goal
 
 pub returns : goal.returns
 returns c =
-    accepted_is _ _ c.words_needed.ensures c.constants_needed.ensures c.columns_needed.ensures c.rows_needed.ensures c.shared_needed.ensures
+    accepted_is _ _ c.words_needed.ensures c.constants.ensures.count c.columns.ensures c.rows_needed.ensures c.shared_needed.ensures
     c.objective_constant.ensures

@@ -1,17 +1,16 @@
+use mathlib.Core.Path.{◌≡◌, ◌∙◌}
+use mathlib.Core.Bool.{true, false}
 use native.Mathlib.Omega.{arith}
-use Rattle.base.proofs.Firsts.{unless_proper}
-use Rattle.base.proofs.Refusals.{first_pass, first_exit}
-use Rattle.base.proofs.Turns.{first_none, first_done}
+use lib.Dec.{leb}
+use Rattle.std.proofs.Common.{rules, tests}
+use Rattle.std.proofs.lemmas.Iterator.{IsFirst-from_position, YieldsList-from_slice, YieldsList-from_zip}
+use Rattle.lists.proofs.Pairs.{pair_found}
 use Rattle.compile.proofs.decide.short_fault.Goals as goal
 
-pub loop-i-init : goal.loop-i-init
-loop-i-init c = first_none _
-
-pub returns-in_err-unless : goal.returns-in_err-unless
-returns-in_err-unless c = first_exit _ _ _ _ _ c.from_residual.ensures.1 c.loop-i-test.true c.loop-i.invariant c.in_err-unless.ensures
-
-pub loop-i-preserved : goal.loop-i-preserved
-loop-i-preserved c = first_pass _ _ c.loop-i.invariant c.in_ok-unless.ensures
-
 pub returns : goal.returns
-returns c = first_done _ _ _ (omega arith) (λ j. unless_proper _ 12 _ (omega arith)) c.loop-i.invariant
+returns c =
+    c.unless_found.ensures
+    ∙ pair_found 0 0 leb 12 c.args.needs c.args.lent 7 (omega (arith, c.well_formed)) (omega (arith, c.well_formed)) (omega arith) c.position-short.result
+    (IsFirst-from_position c.position-short.new.self _ c.position-short.result (λ p. leb p.0 p.1 ≡ false) (λ p. leb p.0 p.1 ≡ true) c.position-short.ensures.ran
+    (YieldsList-from_zip (YieldsList-from_slice c.args.needs cc) (YieldsList-from_slice c.args.lent cc))
+    (λ x q k. search (rules, tests)) (λ x q k. search (rules, tests)))

@@ -21,14 +21,10 @@ put_hex_lines-requires c =
     omega (arith, few, e, c.requires)
 
 pub returns-in-Ok : goal.returns-in-Ok
-returns-in-Ok c =
-    let few = few_words _ _ c.in-Ok.answer c.in-Ok.ensures.0 in
-    let e = length-take-le c.in-Ok.answer.words c.compile_words.new.model_words (omega (arith, few, c.compile_words.auto.model_words)) in
-    let lines = network_lines _ _ c.in-Ok.answer c.in-Ok.ensures.0 _ _ c.compile_words.ensures.1 in
-    let put = c.put_hex_lines.ensures in
-    (rw lines at put.0, omega (arith, few, e, put.1))
+returns-in-Ok c = rw (network_lines _ _ c.in-Ok.answer c.in-Ok.ensures.0 _ _ c.compile_words.ensures.1) at c.put_hex_lines.ensures
+
+pub put_refused-requires : goal.put_refused-requires
+put_refused-requires c = omega (arith, c.requires)
 
 pub returns-in-Err : goal.returns-in-Err
-returns-in-Err c =
-    let put = c.put_refused.ensures in
-    (rw (network_refused _ _ c.in-Err.refusal c.in-Err.ensures.0) at put.0, omega (arith, put.1))
+returns-in-Err c = rw (network_refused _ _ c.in-Err.refusal c.in-Err.ensures.0) at c.put_refused.ensures

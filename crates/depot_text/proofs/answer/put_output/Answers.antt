@@ -7,11 +7,7 @@ use Rattle.depot_text.proofs.Texts.{output_none, output_some}
 use Rattle.depot_text.proofs.answer.put_output.Goals as goal
 
 pub returns-then-not-formed : goal.returns-then-not-formed
-returns-then-not-formed c =
-    let formed = c.formed in
-    let put = c.put.ensures in
-    let none = output_none c.args.input.now formed.result formed.ensures c.if-not-formed.true in
-    (rw none at put, omega (arith, put.follows))
+returns-then-not-formed c = rw (output_none c.args.input.now c.formed.result c.formed.ensures c.if-not-formed.true) at c.put.ensures
 
 pub read_words-w-requires : goal.read_words-w-requires
 read_words-w-requires c =
@@ -38,10 +34,7 @@ slice_bounds-put_network-end-2 c = sym (length-take-le _ _ c.read_numbers-n.ensu
 
 pub returns : goal.returns
 returns c =
-    let input = c.args.input.now in
     let formed = c.formed in
-    let right = c.if-not-formed.false in
     let words = c.read_words-w.ensures.0 in
     let numbers = c.read_numbers-n.ensures.0 in
-    let put = c.put_network.ensures in
-    (rw (output_some input formed.result formed.ensures _ _ right words numbers) at put.0, put.1)
+    rw (output_some c.args.input.now formed.result formed.ensures _ _ c.if-not-formed.false words numbers) at c.put_network.ensures

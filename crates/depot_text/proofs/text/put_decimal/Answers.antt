@@ -21,5 +21,5 @@ returns c =
     let value = decimal.ensures.len in
     let few = few_digits n decimal.result (omega (arith, good, fits)) value in
     let e = decimal.ensures.digits ∙ digits_decimal decimal.result n few value in
-    let put = c.put in
-    (rw e at put.ensures, omega (arith, few, put.ensures.follows, decimal.ensures.in_bounds.1))
+    let put = c.put.ensures in
+    (rw e at put, omega (arith, few, put.wrote.follows, decimal.ensures.in_bounds.1))

@@ -9,22 +9,15 @@ pub loop-s-init : goal.loop-s-init
 unfolding segments_fault
 loop-s-init c = first_none _
 
-pub overflow_mul-s : goal.overflow_mul-s
-overflow_mul-s c = omega (arith, c.requires.1)
-
-pub overflow_add-place : goal.overflow_add-place
-overflow_add-place c = omega (arith, c.requires.1, c.requires.2)
-
-pub segment_fault-requires : goal.segment_fault-requires
-segment_fault-requires c = (c.requires.0 _ c.loop-s-test.true, omega (arith, c.requires.1, c.requires.2))
-
 pub returns-in_err-segment_fault : goal.returns-in_err-segment_fault
 unfolding segments_fault
-returns-in_err-segment_fault c = first_exit _ _ _ _ _ c.from_residual.ensures.1 c.loop-s-test.true c.loop-s.invariant c.in_err-segment_fault.ensures
+returns-in_err-segment_fault c =
+    let turn = rw (c.segment.ensures.0, c.segment.ensures.1) at c.in_err-segment_fault.ensures in
+    first_exit _ _ _ _ _ c.from_residual.ensures.1 (rw c.segments-s-end.ensures at c.loop-s-test.true) c.loop-s.invariant turn
 
 pub loop-s-preserved : goal.loop-s-preserved
 unfolding segments_fault
-loop-s-preserved c = first_pass _ _ c.loop-s.invariant c.in_ok-segment_fault.ensures
+loop-s-preserved c = first_pass _ _ c.loop-s.invariant (rw (c.segment.ensures.0, c.segment.ensures.1) at c.in_ok-segment_fault.ensures)
 
 pub returns : goal.returns
 unfolding segments_fault

@@ -1,37 +1,36 @@
-use mathlib.Core.Path.{refl}
 use native.Mathlib.Omega.{arith}
 use borrow.Author.Tests.{ne_eqb}
 use Rattle.network.specs.Word.{load_right}
 use Rattle.network.proofs.word.load_right.Goals as goal
 
-pub returns-in-Some-Header : goal.returns-in-Some-Header
+pub returns-in-Ok-Header : goal.returns-in-Ok-Header
 unfolding load_right
-returns-in-Some-Header c =
-    let e = rw c.in-Some-Header.field-0-is at c.in-Some-Header.ensures.some in rw (c.load_of-load.ensures, ← c.kind_of.ensures, ← e)
+returns-in-Ok-Header c =
+    let e = rw c.in-Ok-Header.field-0-is at c.in-Ok-Header.ensures in rw (c.load_of-load.ensures, ← c.kind_of.ensures, ← e)
 
-pub returns-in-Some-Bus : goal.returns-in-Some-Bus
+pub returns-in-Ok-Bus : goal.returns-in-Ok-Bus
 unfolding load_right
-returns-in-Some-Bus c =
-    let e = rw c.in-Some-Bus.field-0-is at c.in-Some-Bus.ensures.some in rw (c.load_of-load.ensures, ← c.kind_of.ensures, ← e)
+returns-in-Ok-Bus c =
+    let e = rw c.in-Ok-Bus.field-0-is at c.in-Ok-Bus.ensures in rw (c.load_of-load.ensures, ← c.kind_of.ensures, ← e)
 
-pub returns-in-Some-Generator : goal.returns-in-Some-Generator
+pub returns-in-Ok-Generator : goal.returns-in-Ok-Generator
 unfolding load_right
-returns-in-Some-Generator c =
-    let e = rw c.in-Some-Generator.field-0-is at c.in-Some-Generator.ensures.some in rw (c.load_of-load.ensures, c.generator_bus.ensures, c.generator_points-curve.ensures, ← c.kind_of.ensures, ← e)
+returns-in-Ok-Generator c =
+    let e = rw c.in-Ok-Generator.field-0-is at c.in-Ok-Generator.ensures in rw (c.load_of-load.ensures, c.generator_bus.ensures, c.generator_points-curve.ensures, ← c.kind_of.ensures, ← e)
 
-pub returns-in-Some-Branch : goal.returns-in-Some-Branch
+pub returns-in-Ok-Branch : goal.returns-in-Ok-Branch
 unfolding load_right
-returns-in-Some-Branch c =
-    let e = rw c.in-Some-Branch.field-0-is at c.in-Some-Branch.ensures.some in rw (c.load_of-load.ensures, c.branch_from.ensures, c.branch_to.ensures, ← c.kind_of.ensures, ← e)
+returns-in-Ok-Branch c =
+    let e = rw c.in-Ok-Branch.field-0-is at c.in-Ok-Branch.ensures in rw (c.load_of-load.ensures, c.branch_from.ensures, c.branch_to.ensures, ← c.kind_of.ensures, ← e)
 
-pub returns-in-Some-Reference : goal.returns-in-Some-Reference
+pub returns-in-Ok-Reference : goal.returns-in-Ok-Reference
 unfolding load_right
-returns-in-Some-Reference c =
-    let e = rw c.in-Some-Reference.field-0-is at c.in-Some-Reference.ensures.some in rw (c.load_of-load.ensures, c.reference_bus.ensures, ← c.kind_of.ensures, ← e)
+returns-in-Ok-Reference c =
+    let e = rw c.in-Ok-Reference.field-0-is at c.in-Ok-Reference.ensures in rw (c.load_of-load.ensures, c.reference_bus.ensures, ← c.kind_of.ensures, ← e)
 
-pub returns-in-None : goal.returns-in-None
+pub returns-in-Err : goal.returns-in-Err
 unfolding load_right
-returns-in-None c =
-    let h = c.in-None.ensures.none.0 refl in
+returns-in-Err c =
+    let h = c.in-Err.ensures in
     let k = c.kind_of.result in
     rw (← c.kind_of.ensures, ne_eqb k 1 (λ z. omega (arith, h)), ne_eqb k 2 (λ z. omega (arith, h)), ne_eqb k 3 (λ z. omega (arith, h)), ne_eqb k 4 (λ z. omega (arith, h)), ne_eqb k 5 (λ z. omega (arith, h)))

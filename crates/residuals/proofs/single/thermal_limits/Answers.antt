@@ -12,7 +12,7 @@ loop-b-init c = where_none _ _
 
 pub loop-b-preserved : goal.loop-b-preserved
 loop-b-preserved c =
-    thermal_turn c.branch-branch.ensures _ c.loop-b.invariant
+    thermal_turn c.branch-branch.ensures c.rated-rated.ensures _ c.loop-b.invariant
     (elim c.if-rated.branch [
       | then-rated w ↦
           let flow = w.flows-flow.ensures in

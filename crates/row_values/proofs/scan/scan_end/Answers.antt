@@ -1,12 +1,10 @@
 -- `row_values::scan::scan_end` meets its contract.
 use mathlib.Core.Path.{◌≡◌, ap, sym, ◌∙◌}
-use Prim.Native.Nat.{◌<◌}
-use native.Mathlib.Omega.{arith}
 use lib.ListN.{length}
 use Rattle.nl.specs.Reader.{is_mark, read_last}
 use Rattle.nl.proofs.PartSteps.{mark_inside}
 use Rattle.row_values.specs.internal.Run.{EndScanned}
-use Rattle.row_values.proofs.Passes.{exit_as}
+use Rattle.expression.proofs.Scans.{exit_as}
 use Rattle.row_values.proofs.Files.{no_end, objective_bad, last_read, ends}
 use Rattle.row_values.proofs.scan.scan_end.Goals as goal
 use Rattle.row_values.proofs.scan.scan_end.Goals.{After-is_mark, After-read_last}
@@ -20,20 +18,20 @@ last_is c = rw (c.file-file.ensures.0, c.file-file.ensures.1) at c.read_last.ens
 pub returns-then-not-is_mark : goal.returns-then-not-is_mark
 returns-then-not-is_mark c = no_end _ _ _ _ _ _ _ (marks (goal.at.returns-then-not-is_mark c).After-is_mark) c.if-not-is_mark.true
 
-pub overflow_add-from : goal.overflow_add-from
-overflow_add-from c = let h : _ < _ = mark_inside _ _ _ _ _ c.is_mark.ensures c.if-not-is_mark.false in omega arith
+pub past-requires : goal.past-requires
+past-requires c = mark_inside _ _ _ _ _ c.is_mark.ensures c.if-not-is_mark.false
 
 pub returns-in_err-objective : goal.returns-in_err-objective
 returns-in_err-objective c =
     exit_as (EndScanned _ _ _ _ _ _) _ _ c.from_residual.ensures.1
-    (objective_bad _ _ _ _ _ _ _ (marks (goal.at.returns-in_err-objective c).After-is_mark) c.if-not-is_mark.false _ c.in_err-objective.ensures)
+    (objective_bad _ _ _ _ _ _ _ (marks (goal.at.returns-in_err-objective c).After-is_mark) c.if-not-is_mark.false _ (rw c.past.ensures at c.in_err-objective.ensures))
 
 pub returns-in_err-read_last : goal.returns-in_err-read_last
 returns-in_err-read_last c =
     exit_as (EndScanned _ _ _ _ _ _) _ _ c.from_residual-in_err-read_last.ensures.1
-    (sym (last_read _ _ _ _ _ _ _ (marks (goal.at.returns-in_err-read_last c).After-is_mark) c.if-not-is_mark.false _ c.in_ok-objective.ensures _ (last_is (goal.at.returns-in_err-read_last c).After-read_last))
+    (sym (last_read _ _ _ _ _ _ _ (marks (goal.at.returns-in_err-read_last c).After-is_mark) c.if-not-is_mark.false _ (rw c.past.ensures at c.in_ok-objective.ensures) _ (last_is (goal.at.returns-in_err-read_last c).After-read_last))
     ∙ c.in_err-read_last.was)
 
 pub returns : goal.returns
 returns c =
-    ends _ _ _ _ _ _ _ (marks (goal.at.returns c).After-is_mark) c.if-not-is_mark.false _ c.in_ok-objective.ensures _ (last_is (goal.at.returns c).After-read_last) _ c.in_ok-read_last.was
+    ends _ _ _ _ _ _ _ (marks (goal.at.returns c).After-is_mark) c.if-not-is_mark.false _ (rw c.past.ensures at c.in_ok-objective.ensures) _ (last_is (goal.at.returns c).After-read_last) _ c.in_ok-read_last.was

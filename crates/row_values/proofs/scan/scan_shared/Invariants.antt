@@ -9,7 +9,7 @@ use Rattle.row_values.proofs.scan.scan_shared.Given as goal
 abbrev pub invariant-loop-file : goal.invariant-loop-file
 invariant-loop-file l =
     let e = l.inputs in
-    (length l.initial.array ≡ shared_limit) × SharedSoFar e.words.now e.constants.now e.point.now l.array l.end.at l.end.next l.verdict l.count
+    (length l.initial.array ≡ shared_limit) × SharedSoFar e.words.now e.constants.now e.point.now l.array l.run.end.at l.run.end.next l.run.verdict l.run.count
 
 abbrev pub decreases-loop-file : goal.decreases-loop-file
-decreases-loop-file l = length l.initial.array - l.count
+decreases-loop-file l = length l.initial.array - l.run.count

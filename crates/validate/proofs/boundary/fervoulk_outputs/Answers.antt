@@ -1,12 +1,6 @@
-use mathlib.Core.Path.{sym, ◌∙◌}
-use Rattle.base.proofs.Refusals.{shown_number}
-use Rattle.validate.proofs.Entry.{needed_refused, needed_is}
+use Rattle.std.proofs.Common.{rules, tests}
+use Rattle.validate.proofs.Needed.{needed}
 use Rattle.validate.proofs.boundary.fervoulk_outputs.Goals as goal
 
-pub returns-in-Err : goal.returns-in-Err
-returns-in-Err c = needed_refused _ _ (c.in-Err.ensures.fault, shown_number c.in-Err.field-0)
-
-pub returns-in-Ok : goal.returns-in-Ok
-returns-in-Ok c =
-    let t = c.in-Ok.ensures in
-    c.output_count.ensures ∙ needed_is _ _ (sym t.fault) (rw (t.words, t.numbers) at c.in-Ok.case.tables.laid)
+pub returns : goal.returns
+returns c = needed _ _ c.judge.result _ c.judge.ensures.fault c.judge.ensures.words c.judge.ensures.numbers (λ k q. search (rules, tests)) c.map_or.ensures

@@ -1,6 +1,6 @@
 use native.Mathlib.Omega.{arith}
 use Rattle.std.proofs.lemmas.Result.{err_from_is_err_and}
-use Rattle.validate.proofs.Verdict.{cleared_eight, outputs_length, says_15, says_16, says_0}
+use Rattle.validate.proofs.Verdict.{cleared_eight, outputs_length, says_15, says_rest}
 use Rattle.validate.proofs.primal.verdict.Goals as goal
 
 pub returns-in_err-measured : goal.returns-in_err-measured
@@ -8,20 +8,15 @@ returns-in_err-measured c =
     let p = err_from_is_err_and c.from_residual.result c.from_residual.ensures.1 in
     rw (p.1, p.2) (says_15 _ _ _ _ _ _ c.requires.0.cleared _ c.in_err-measured.ensures.fault)
 
-pub residual_fault-requires : goal.residual_fault-requires
-residual_fault-requires c = cleared_eight _ _ _ _ _ _ c.requires.0.cleared
-
-pub copy_front-requires : goal.copy_front-requires
-copy_front-requires c =
+pub accept-requires : goal.accept-requires
+accept-requires c =
     let m = c.in_ok-measured.ensures in
-    rw m.outputs (omega (arith, outputs_length c.args.candidate.now.tables.words.now c.args.candidate.now.tables.numbers.now c.args.candidate.now.point.now c.args.solver, c.requires.0.room))
+    let a = c.args.asked.now in
+    let n = outputs_length a.candidate.tables.words.now a.candidate.tables.numbers.now a.candidate.point.now a.solver in
+    (cleared_eight _ _ _ _ _ _ c.requires.0.cleared, rw m.outputs (omega (arith, n, c.requires.0.room)))
 
-pub returns-in-Err : goal.returns-in-Err
-returns-in-Err c =
+pub returns : goal.returns
+returns c =
     let m = c.in_ok-measured.ensures in
-    says_16 _ _ _ _ _ _ c.requires.0.cleared m.fault _ m.residuals _ c.in-Err.ensures
-
-pub returns-in-Ok : goal.returns-in-Ok
-returns-in-Ok c =
-    let m = c.in_ok-measured.ensures in
-    says_0 _ _ _ _ _ _ c.requires.0.cleared m.fault _ m.residuals _ _ _ c.in-Ok.ensures m.outputs m.objective c.copy_front.ensures
+    let a = c.accept.ensures in
+    says_rest _ _ _ _ _ _ c.requires.0.cleared m.fault _ m.residuals _ _ _ _ a.fault a.objective m.outputs m.objective a.outputs

@@ -1,21 +1,19 @@
+use mathlib.Core.Path.{◌≡◌, ◌∙◌}
+use mathlib.Core.Bool.{true, false, not}
 use native.Mathlib.Omega.{arith}
+use lib.Ieee.{nan, lt}
+use Rattle.std.proofs.Common.{rules, tests}
+use Rattle.std.proofs.lemmas.Iterator.{IsFirst-from_position, YieldsList-from_slice, YieldsList-from_zip}
 use Rattle.base.specs.Refusal.{RESIDUAL}
-use Rattle.base.proofs.Firsts.{unless_proper}
-use Rattle.base.proofs.Refusals.{first_pass, first_exit}
-use Rattle.base.proofs.Turns.{first_none, first_done}
+use Rattle.lists.proofs.Pairs.{pair_found}
 use Rattle.validate.specs.Tolerances.{fault_above}
 use Rattle.validate.proofs.tolerance.residual_fault.Goals as goal
 
-pub loop-i-init : goal.loop-i-init
-loop-i-init c = first_none _
-
-pub returns-in_err-unless : goal.returns-in_err-unless
-unfolding fault_above
-returns-in_err-unless c = first_exit _ _ _ _ _ c.from_residual.ensures.1 c.loop-i-test.true c.loop-i.invariant c.in_err-unless.ensures
-
-pub loop-i-preserved : goal.loop-i-preserved
-loop-i-preserved c = first_pass _ _ c.loop-i.invariant c.in_ok-unless.ensures
-
 pub returns : goal.returns
 unfolding fault_above
-returns c = first_done _ _ _ (omega arith) (λ j. unless_proper _ RESIDUAL _ (omega arith)) c.loop-i.invariant
+returns c =
+    c.unless_found.ensures
+    ∙ pair_found nan nan (λ r t. not (lt t r)) RESIDUAL c.args.residuals c.args.tolerances.now 8 (omega (arith, c.well_formed)) c.requires (omega arith) c.position-above.result
+    (IsFirst-from_position c.position-above.new.self _ c.position-above.result (λ p. not (lt p.1 p.0) ≡ false) (λ p. not (lt p.1 p.0) ≡ true) c.position-above.ensures.ran
+    (YieldsList-from_zip (YieldsList-from_slice c.args.residuals cc) (YieldsList-from_slice c.args.tolerances.now cc))
+    (λ x q k. search (rules, tests)) (λ x q k. search (rules, tests)))

@@ -1,8 +1,9 @@
+use mathlib.Core.Path.{ap, ◌∙◌}
 use native.Mathlib.Omega.{arith}
-use Rattle.network.proofs.Forms.{branch_start}
+use Rattle.network.specs.Network.{branch_at}
 use Rattle.network.proofs.tables.Tables.branch_start.Goals as goal
 
 pub returns : goal.returns
 returns c =
-    let laid = c.args.self.now.laid in
-    let is = branch_start laid.words c.args.b in (is, omega (arith, laid.branch_fits c.args.b c.requires, is))
+    let is = c.branch_start.ensures.0 ∙ ap (λ ws. branch_at ws c.args.b) c.form.ensures.0 in
+    (is, omega (arith, c.args.self.now.laid.branch_fits c.args.b c.requires, is))

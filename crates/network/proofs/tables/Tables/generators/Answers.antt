@@ -1,6 +1,5 @@
-use mathlib.Core.Path.{refl}
-use Rattle.network.proofs.Forms.{first_standing}
+use Rattle.network.proofs.Epigraphs.{first_column}
 use Rattle.network.proofs.tables.Tables.generators.Goals as goal
 
-pub invariant_of-result : goal.invariant_of-result
-invariant_of-result c = record { standing = first_standing c.args.self.now.laid.words refl refl }
+pub invariant_of-result-clause-counted : goal.invariant_of-result-clause-counted
+invariant_of-result-clause-counted c = first_column c.args.self.now.laid.words c.first_generator.ensures.1

@@ -5,5 +5,5 @@ use Rattle.network.specs.Limits.{most_points}
 use Rattle.piecewise_cost.specs.internal.Prepared.{Prepared}
 use Rattle.piecewise_cost.proofs.curve.PiecewiseCost.from_prepared.Given as goal
 
-abbrev pub invariant-loop-segment : goal.invariant-loop-segment
-invariant-loop-segment l = (length l.segments ≡ most_points - 1) × Prepared l.numbers l.at l.segment l.segments
+abbrev pub invariant-loop-s : goal.invariant-loop-s
+invariant-loop-s l = (length l.segments ≡ most_points - 1) × Prepared l.curve.numbers.now l.curve.at l.s l.segments

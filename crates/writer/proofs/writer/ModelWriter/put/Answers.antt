@@ -1,5 +1,6 @@
 use mathlib.Core.Path.{refl}
-use Rattle.writer.proofs.Tokens.{wrote_mid, bits_same}
+use Rattle.base.proofs.Sections.{wrote_mid}
+use Rattle.writer.proofs.Tokens.{bits_same}
 use Rattle.writer.proofs.writer.ModelWriter.put.Goals as goal
 
 pub returns : goal.returns

@@ -1,6 +1,0 @@
-use mathlib.Core.Path.{◌≡◌}
-use Rattle.network.specs.Network.{generator_at}
-use Rattle.network.proofs.layout.generators_end.Given as goal
-
-abbrev pub invariant-loop-g : goal.invariant-loop-g
-invariant-loop-g l = l.at ≡ generator_at l.words l.g
