@@ -20,10 +20,10 @@ use Rattle.nl.specs.declared.kind.Kind.{Kind}
 use Rattle.nl.specs.declared.reader.Cursor.{Cursor}
 use Rattle.nl.specs.declared.reader.Head.{Head}
 use Rattle.nl.specs.declared.reader.WrongWord.{WrongWord}
-use Rattle.nl.specs.Reader.{Read, head, after, word_ok, arity, uses, many, read_head, read_expr, is_mark}
+use Rattle.nl.specs.Reader.{Read, head, word_ok, arity, uses, many, read_head, read_expr, is_mark}
 use Rattle.nl.proofs.PartSteps.{marked}
 use Rattle.nl.proofs.Words.{leaf_arity}
-use Rattle.nl.proofs.Steps.{same_place, spelled, head_open, head_inside, one_more_is, many_none, many_more}
+use Rattle.nl.proofs.Steps.{same_place, spelled, head_open, head_inside, one_more_is, many_none}
 use Rattle.expression.specs.declared.Scanned.{Scanned}
 use Rattle.expression.specs.Value.{step, applied, argument_ok, value, patterns}
 use Rattle.model_reading.specs.Parse.{leaf_of, parse_many, parse}
@@ -178,26 +178,6 @@ module _ (ws : List ℕ) (xs point values : List Float) where
     went = one_more_is _ n i s.end.at s.end.next e.end.at e.end.next _ _ h g.went refl p.went;
     is = goes_on ws (patterns xs) point values (parse ws (patterns xs) (depth - 1)) kind n i s.end.at s.value s.in_range (worth e) _ _ h g.is (sym p.is) refl;
   }
-
-  pub gathered_next : (depth at k kind n i : ℕ) (s e : Scanned) → i < n → 1 ≤ i → Gathered depth at k kind n s i → Reads ws xs point values (depth - 1) s.end.at s.end.next e
-      → Gathered depth at k kind n (record { value = step kind s.value e.value; in_range = s.in_range && e.in_range; end = e.end }) (i + 1)
-  gathered_next depth at k kind n i s e h o g p = rw (ne_eqb i 0 (λ z. omega arith)) at (gathered_more depth at k kind n i s e h g p)
-
-  some_operand : (n : ℕ) → (n ≡ 0 → ⊥) → 0 < n
-  some_operand zero f = absurd (f refl)
-  some_operand (suc n) f = omega arith
-
-  module _ (depth at k : ℕ) (h : Head) (deep : depth ≡ 0 → ⊥) (p : Some h ≡ read_head ws (length xs) (length point) (length values) at k) (some : h.operands ≡ 0 → ⊥) where
-    -- the first operand is taken as it is
-    pub gathered_one : (kind : ℕ) (s : Scanned) → kind ≡ kind_of (get_or ws at 0) → Reads ws xs point values (depth - 1) (at + 1) h.next s → Gathered depth at k kind h.operands s 1
-    gathered_one kind s e r =
-        gathered_more depth at k kind h.operands 0 (scanned zero64 true (at + 1) h.next) s (some_operand h.operands some) (gathered_none depth at k kind h deep p e some) r
-
-    pub first_wrong : (w : WrongWord) → read_at (depth - 1) (at + 1) h.next ≡ Err w → read_at depth at k ≡ Err w
-    first_wrong w e =
-        head_open ws (length xs) (length point) (length values) depth at k _ h deep p refl
-        ∙ many_more (read_at (depth - 1)) h.operands 0 (at + 1) h.next (some_operand h.operands some)
-        ∙ ap (λ x. after x (many (read_at (depth - 1)) (h.operands - (0 + 1)))) e
 
   pub gathered_all : (depth at k kind n i : ℕ) (s : Scanned) → n ≤ i → Gathered depth at k kind n s i
       → Reads ws xs point values depth at k (record { value = applied kind s.value; in_range = s.in_range && argument_ok kind s.value; end = s.end })

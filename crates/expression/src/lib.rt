@@ -53,16 +53,22 @@ impl Scanned {
         })
     }
 
-    // One operand more, gathered with those before it.
-    fn gather(self, kind: Kind, operand: Scanned) -> Scanned
+    // Operand i, gathered with those before it: the first is taken as it is. With the first read before a loop over the others, row values
+    // take twice as long.
+    fn gather(self, kind: Kind, i: usize, operand: Scanned) -> Scanned
         ensures { result ≡ record {
-          value = step (number_of kind) self.value operand.value;
+          value = cond (eqb i 0) operand.value (step (number_of kind) self.value operand.value);
           in_range = self.in_range && operand.in_range;
           end = operand.end;
         } }
     {
+        let value = if i == 0 {
+            operand.value
+        } else {
+            step(kind, self.value, operand.value)
+        };
         Scanned {
-            value: step(kind, self.value, operand.value),
+            value,
             in_range: self.in_range & operand.in_range,
             end: operand.end,
         }
@@ -173,20 +179,7 @@ impl<'a> Evaluation<'a> {
         self.leaf(from)
     }
 
-    // The expression there, of at most so many levels: most are shallow.
-    #[cycle(scan_expr)]
-    fn operand(&self, from: Cursor, depth: u32) -> Result<Scanned, WrongWord>
-        ensures { let e = self.now in
-            Scans e.words.now e.constants.now e.point.now e.shared.now depth from.at from.next result }
-    {
-        match self.shallow(from, depth) {
-            Some(operand) => Ok(operand),
-            None => self.scan_expr(from, depth),
-        }
-    }
-
     // Reads and works out the expression there, of at most `depth` levels: its word, then its operands in order.
-    #[cycle(scan_expr)]
     fn scan_expr(&self, from: Cursor, depth: u32) -> Result<Scanned, WrongWord>
         ensures { let e = self.now in
             Scans e.words.now e.constants.now e.point.now e.shared.now depth from.at from.next result }
@@ -200,14 +193,20 @@ impl<'a> Evaluation<'a> {
         if head.operands == 0 {
             return self.leaf(from).ok_or(wrong);
         }
-        let first = Cursor {
-            next: head.next,
-            ..file.past(from)
+        let mut gathered = Scanned {
+            value: 0.0,
+            in_range: true,
+            end: Cursor {
+                next: head.next,
+                ..file.past(from)
+            },
         };
-        let mut gathered = self.operand(first, depth - 1)?;
-        for _ in 1..head.operands {
-            let operand = self.operand(gathered.end, depth - 1)?;
-            gathered = gathered.gather(head.kind, operand);
+        for i in 0..head.operands {
+            let operand = match self.shallow(gathered.end, depth - 1) {
+                Some(operand) => operand,
+                None => self.scan_expr(gathered.end, depth - 1)?,
+            };
+            gathered = gathered.gather(head.kind, i, operand);
         }
         Ok(gathered.finish(head.kind))
     }

@@ -1,16 +1,12 @@
 -- `expression::Evaluation::scan_expr` meets its contract. The remaining depth is the falling number; the loop's invariant: the answer is what the operands that are left give, with what is gathered.
-use Prim.Native.Nat.{◌+◌, ◌*◌}
 use Rattle.nl.specs.Kinds.{number_of}
 use Rattle.expression.proofs.Scans.{Gathered}
 use Rattle.expression.proofs.Evaluation.+scan_expr.Given as goal
 
 abbrev pub decreases-scan_expr : goal.decreases-scan_expr
-decreases-scan_expr l = 2 * l.depth
+decreases-scan_expr l = l.depth
 
-abbrev pub decreases-operand : goal.decreases-operand
-decreases-operand l = 2 * l.depth + 1
-
-abbrev pub invariant-scan_expr-loop : goal.invariant-scan_expr-loop
-invariant-scan_expr-loop l =
+abbrev pub invariant-loop-i : goal.invariant-loop-i
+invariant-loop-i l =
     let e = l.self in
-    Gathered e.words.now e.constants.now e.point.now e.shared.now l.depth l.fn.from.at l.fn.from.next (number_of l.head.kind) l.end l.gathered l.counter
+    Gathered e.words.now e.constants.now e.point.now e.shared.now l.depth l.fn.from.at l.fn.from.next (number_of l.head.kind) l.i-end l.gathered l.i
