@@ -6,6 +6,7 @@ mod columns;
 mod objective;
 mod tallies;
 
+pub use base::Refusal;
 pub use case::Case;
 pub use columns::{epigraph_start, generator_start, lower_bound, upper_bound, vm_lower, vm_upper};
 pub use objective::{objective_constant, objective_constants};

@@ -81,7 +81,19 @@ impl<'a, 'b> Derived<'a, 'b> {
     ghost use Rattle.lists.specs.Finite.{first_non_finite};
     ghost use Rattle.derived.specs.Outputs.{p_injection, q_injection, withdrawn, p_from, q_from, p_to, q_to};
     ghost use Rattle.derived.specs.internal.Agree.{PerBus};
-    ghost use Rattle.derived.specs.internal.Scratch.{FlowIs};
+    ghost use Rattle.derived.specs.internal.Scratch.{FlowIs, Filled};
+
+    // Of a list whose front holds the outputs, however long it is.
+    pub fn of(candidate: &Candidate<'a>, filled: &'b [f64]) -> Derived<'a, 'b>
+        requires { let tables = candidate.now.tables in
+            Filled tables.words.now tables.numbers.now candidate.now.point.now tables.layout filled.now }
+        ensures { result.candidate ≡ candidate.now }
+    {
+        Derived {
+            candidate: *candidate,
+            list: &filled[..output_count(&candidate.tables)],
+        }
+    }
 
     // The outputs fill the front of the list that is lent.
     pub fn new(candidate: &Candidate<'a>, lent: &'b mut [f64]) -> Derived<'a, 'b>
@@ -89,10 +101,7 @@ impl<'a, 'b> Derived<'a, 'b> {
         ensures { result.candidate ≡ candidate.now }
     {
         fill_outputs(candidate, lent);
-        Derived {
-            candidate: *candidate,
-            list: &lent[..output_count(&candidate.tables)],
-        }
+        Derived::of(candidate, lent)
     }
 
     // The flows of branch b.

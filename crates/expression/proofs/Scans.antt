@@ -20,14 +20,15 @@ use Rattle.nl.specs.declared.kind.Kind.{Kind}
 use Rattle.nl.specs.declared.reader.Cursor.{Cursor}
 use Rattle.nl.specs.declared.reader.Head.{Head}
 use Rattle.nl.specs.declared.reader.WrongWord.{WrongWord}
-use Rattle.nl.specs.Reader.{Read, head, word_ok, arity, uses, many, read_head, read_expr, is_mark}
+use Rattle.nl.specs.Reader.{Read, head, word_ok, arity, uses, after, many, read_head, read_expr, is_mark}
 use Rattle.nl.proofs.PartSteps.{marked}
 use Rattle.nl.proofs.Words.{leaf_arity}
-use Rattle.nl.proofs.Steps.{same_place, spelled, head_open, head_inside, one_more_is, many_none}
+use Rattle.nl.proofs.Steps.{same_place, spelled, no_depth, head_open, head_inside, one_more_is, many_more, many_none}
+use Rattle.expression.specs.declared.Number.{Number}
 use Rattle.expression.specs.declared.Scanned.{Scanned}
 use Rattle.expression.specs.Value.{step, applied, argument_ok, value, patterns}
 use Rattle.model_reading.specs.Parse.{leaf_of, parse_many, parse}
-use Rattle.expression.specs.internal.Scan.{evaluated, worth, IsNumber, Finds, LeafScans, Reads, Scans}
+use Rattle.expression.specs.internal.Scan.{evaluated, worth, IsNumber, Finds, LeafScans, Reads}
 use Rattle.expression.proofs.Operands.{by_pattern, a_leaf, whole, begins, goes_on, ends}
 
 -- a word that may stand and has no operands is a constant's, a column's or a shared part's
@@ -90,8 +91,8 @@ module _ (ws : List ℕ) (xs point values : List Float) where
   }
 
   module _ (at k kind load : ℕ) (h : at < length ws) (e : kind ≡ kind_of (get_or ws at 0)) (f : load ≡ load_of (get_or ws at 0)) where
-    pub constant_scans : (found : Option Scanned) → kind ≡ 0 → load ≡ k
-        → MatchOption found (length xs ≤ load) (λ s. IsNumber xs load (record { at = at + 1; next = load + 1 }) s) → LeafScans ws xs point values at k found
+    pub constant_scans : (found : Option Number) → kind ≡ 0 → load ≡ k
+        → MatchOption found (length xs ≤ load) (λ n. IsNumber xs load (record { at = at + 1; next = load + 1 }) n) → LeafScans ws xs point values at k found
     unfolding word_ok uses leaf_of value
     constant_scans (Some s) z n p =
         λ d. rw p.is (leaf_reads d at k kind load (load + 1) (get_or xs load nan) h e f (omega arith)
@@ -105,8 +106,8 @@ module _ (ws : List ℕ) (xs point values : List Float) where
     no_leaf n n' (inl (z, o)) = λ _ _. rw (← e, ← f, eq-eqb kind 0 z, ne_eqb load k o)
     no_leaf n n' (inr z) = λ _ low. absurd (omega arith)
 
-    pub column_scans : (found : Option Scanned) → kind ≡ 1
-        → MatchOption found (length point ≤ load) (λ s. IsNumber point load (record { at = at + 1; next = k }) s) → LeafScans ws xs point values at k found
+    pub column_scans : (found : Option Number) → kind ≡ 1
+        → MatchOption found (length point ≤ load) (λ n. IsNumber point load (record { at = at + 1; next = k }) n) → LeafScans ws xs point values at k found
     unfolding word_ok uses leaf_of value
     column_scans (Some s) z p =
         let o : kind ≡ 0 → ⊥ = λ y. omega arith in
@@ -115,8 +116,8 @@ module _ (ws : List ℕ) (xs point values : List Float) where
         (rw (ne_eqb kind 0 o, eq-eqb kind 1 z) (get_or_default point load nan zero64 p.within)))
     column_scans None z p = λ _ _. rw (← e, ← f, ne_eqb kind 0 (λ y. omega arith), eq-eqb kind 1 z, le-ltb load (length point) p)
 
-    pub shared_scans : (found : Option Scanned) → kind ≡ 2
-        → MatchOption found (length values ≤ load) (λ s. IsNumber values load (record { at = at + 1; next = k }) s) → LeafScans ws xs point values at k found
+    pub shared_scans : (found : Option Number) → kind ≡ 2
+        → MatchOption found (length values ≤ load) (λ n. IsNumber values load (record { at = at + 1; next = k }) n) → LeafScans ws xs point values at k found
     unfolding word_ok uses leaf_of value
     shared_scans (Some s) z p =
         let o : kind ≡ 0 → ⊥ = λ y. omega arith in
@@ -147,15 +148,22 @@ module _ (ws : List ℕ) (xs point values : List Float) where
   }
 
   -- a word with no operands is a leaf's
-  pub leaf_only : (depth at k : ℕ) (h : Head) (found : Option Scanned) (w : WrongWord) → (depth ≡ 0 → ⊥) → Some h ≡ read_head ws (length xs) (length point) (length values) at k
-      → h.operands ≡ 0 → LeafScans ws xs point values at k found → Scans ws xs point values depth at k (ok_or found w)
-  leaf_only zero at k h found w nz p n s = absurd (nz refl)
-  leaf_only (suc d) at k h (Some s) w nz p n f = f d
-  leaf_only (suc d) at k h None w nz p n f =
+  pub leaf_only : (at k : ℕ) (h : Head) (found : Option Number) → Some h ≡ read_head ws (length xs) (length point) (length values) at k
+      → h.operands ≡ 0 → LeafScans ws xs point values at k found → found ≡ None → ⊥
+  leaf_only at k h (Some s) p n f e = (cc)
+  leaf_only at k h None p n f e =
       let (ok, arity-is) = open_head at k h p in
       let inside = head_inside ws (length xs) (length point) (length values) at k _ h p refl in
       let bad = f inside (no_operands (length xs) (length point) (length values) k _ _ ok (sym arity-is ∙ n)) in
-      absurd (true≢false (sym ok ∙ bad))
+      true≢false (sym ok ∙ bad)
+
+  -- a word's operands lie a level deeper
+  pub too_deep : (depth at k : ℕ) (h : Head) → depth ≡ 1 → Some h ≡ read_head ws (length xs) (length point) (length values) at k → (h.operands ≡ 0 → ⊥)
+      → read_at depth at k ≡ Err (record { place = at + 1 })
+  too_deep depth at k h one p some =
+      head_open ws (length xs) (length point) (length values) depth at k _ h (λ z. omega arith) p refl
+      ∙ many_more (read_at (depth - 1)) h.operands 0 (at + 1) h.next (omega arith)
+      ∙ ap (λ (x : Read Cursor). after x (many (read_at (depth - 1)) (h.operands - (0 + 1)))) (no_depth ws (length xs) (length point) (length values) (depth - 1) (at + 1) h.next (omega arith))
 
   -- n operands of a word of this kind, of which i are gathered
   pub record Gathered (depth at k kind n : ℕ) (s : Scanned) (i : ℕ) : Type 0 where
@@ -188,15 +196,15 @@ module _ (ws : List ℕ) (xs point values : List Float) where
 
   -- ---- at any depth that is left
 
-  pub one_level : (depth at k : ℕ) (found : Option Scanned) → (depth ≡ 0 → ⊥) → LeafScans ws xs point values at k found → Finds ws xs point values depth at k found
+  pub one_level : (depth at k : ℕ) (found : Option Number) → (depth ≡ 0 → ⊥) → LeafScans ws xs point values at k found → Finds ws xs point values depth at k found
   one_level zero at k found nz f = absurd (nz refl)
   one_level (suc d) at k (Some s) nz f = f d
   one_level (suc d) at k None nz f = tt
 
-  pub two_levels : (depth at k : ℕ) (s : Scanned) → 1 < depth → ((d : ℕ) → Reads ws xs point values (suc (suc d)) at k s) → Reads ws xs point values depth at k s
-  two_levels zero at k s h f = absurd (omega arith)
-  two_levels (suc zero) at k s h f = absurd (omega arith)
-  two_levels (suc (suc d)) at k s h f = f d
+  pub two_levels : (depth at k : ℕ) (found : Option Number) → (depth ≡ 0 → ⊥) → (depth ≡ 1 → ⊥) → ((d : ℕ) → Finds ws xs point values (suc (suc d)) at k found) → Finds ws xs point values depth at k found
+  two_levels zero at k found nz more f = absurd (nz refl)
+  two_levels (suc zero) at k found nz more f = absurd (more refl)
+  two_levels (suc (suc d)) at k found nz more f = f d
 
 -- ---- the exit of a `?`
 

@@ -5,11 +5,11 @@
 // product of two such: these are tried first, without a call of their own.
 #![tactic(auto)]
 
-ghost use Rattle.std.specs.Prelude.{◌≡◌, ◌≤◌, cond, ◌&&◌, ℕ, suc, eqb, length, MatchOption};
+ghost use Rattle.std.specs.Prelude.{◌≡◌, ◌≤◌, ◌<◌, cond, ◌&&◌, ℕ, suc, eqb, length, MatchOption};
 ghost use Rattle.nl.specs.Kinds.{number_of};
 ghost use Rattle.nl.specs.File.{depth_limit};
 ghost use Rattle.expression.specs.Value.{step, applied, inside, argument_ok};
-ghost use Rattle.expression.specs.internal.Scan.{IsNumber, Finds, LeafScans, Scans};
+ghost use Rattle.expression.specs.internal.Scan.{IsNumber, Finds, LeafScans, Scans, as_scanned};
 
 use nl::{Cursor, DEPTH_LIMIT, Kind, ModelFile, WrongWord};
 
@@ -42,17 +42,6 @@ pub struct Scanned {
 }
 
 impl Scanned {
-    // A list's number, of an expression that ends there.
-    fn number(numbers: &[f64], load: usize, end: Cursor) -> Option<Scanned>
-        ensures { MatchOption result (length numbers.now ≤ load) (λ s. IsNumber numbers.now load end s) }
-    {
-        Some(Scanned {
-            value: *numbers.get(load)?,
-            in_range: true,
-            end,
-        })
-    }
-
     // Operand i, gathered with those before it: the first is taken as it is. With the first read before a loop over the others, row values
     // take twice as long.
     fn gather(self, kind: Kind, i: usize, operand: Scanned) -> Scanned
@@ -98,6 +87,37 @@ impl Scanned {
     }
 }
 
+// The value of a constant, a column, a shared part or a product of two such, which 14 spares, and where it ends. With a `Scanned` in its
+// place, which is copied with the padding behind `in_range`, rows of one column take five times as long.
+#[derive(Clone, Copy, Debug)]
+struct Number {
+    value: f64,
+    end: Cursor,
+}
+
+impl Number {
+    // A list's number, of an expression that ends there.
+    fn listed(numbers: &[f64], load: usize, end: Cursor) -> Option<Number>
+        ensures { MatchOption result (length numbers.now ≤ load) (λ n. IsNumber numbers.now load end n) }
+    {
+        Some(Number {
+            value: *numbers.get(load)?,
+            end,
+        })
+    }
+
+    // As the value of an expression: 14 spares it.
+    fn scanned(self) -> Scanned
+        ensures { result ≡ as_scanned self }
+    {
+        Scanned {
+            value: self.value,
+            in_range: true,
+            end: self.end,
+        }
+    }
+}
+
 // What expressions are worked out from: the file's words and its constants' values, the point, which has a number for each column, and the
 // values of the shared parts that may be named.
 #[derive(Clone, Copy, Debug)]
@@ -123,30 +143,33 @@ impl<'a> Evaluation<'a> {
     }
 
     // The constant, column or shared part there.
-    fn leaf(&self, from: Cursor) -> Option<Scanned>
+    fn leaf(&self, from: Cursor) -> Option<Number>
         ensures { let e = self.now in
             LeafScans e.words.now e.constants.now e.point.now e.shared.now from.at from.next result }
     {
         let word = *self.words.get(from.at)?;
         let load = base::load_of(word) as usize;
-        let at = from.at + 1;
-        // By number, since a `match` on the kind takes 4 to 5 percent longer.
+        // By number, since a `match` on the kind takes 4 to 5 percent longer. The place behind the word stands in each arm: before them it
+        // costs a long sum 12 percent more instructions.
         let kind = base::kind_of(word);
         if kind == Kind::Column.number() {
-            return Scanned::number(self.point, load, Cursor { at, ..from });
+            let at = from.at + 1;
+            return Number::listed(self.point, load, Cursor { at, ..from });
         }
         if kind == Kind::Shared.number() {
-            return Scanned::number(self.shared, load, Cursor { at, ..from });
+            let at = from.at + 1;
+            return Number::listed(self.shared, load, Cursor { at, ..from });
         }
         if kind == Kind::Constant.number() && load == from.next {
+            let at = from.at + 1;
             let next = load + 1;
-            return Scanned::number(self.constants, load, Cursor { at, next });
+            return Number::listed(self.constants, load, Cursor { at, next });
         }
         None
     }
 
     // The product of two such there.
-    fn product(&self, from: Cursor) -> Option<Scanned>
+    fn product(&self, from: Cursor) -> Option<Number>
         ensures { let e = self.now in
             (d : ℕ) → Finds e.words.now e.constants.now e.point.now e.shared.now (suc (suc d)) from.at from.next result }
     {
@@ -156,27 +179,25 @@ impl<'a> Evaluation<'a> {
         }
         let a = self.leaf(file.past(from))?;
         let b = self.leaf(a.end)?;
-        Some(Scanned {
+        Some(Number {
             value: a.value * b.value,
-            in_range: a.in_range & b.in_range,
             end: b.end,
         })
     }
 
-    // Either of these, where so many levels are left.
-    fn shallow(&self, from: Cursor, depth: u32) -> Option<Scanned>
+    // Either of these, where so many levels are left, of which there is one at least.
+    fn shallow(&self, from: Cursor, depth: u32) -> Option<Number>
+        requires { 0 < depth }
         ensures { let e = self.now in
             Finds e.words.now e.constants.now e.point.now e.shared.now depth from.at from.next result }
     {
-        if depth == 0 {
+        if let Some(leaf) = self.leaf(from) {
+            return Some(leaf);
+        }
+        if depth == 1 {
             return None;
         }
-        if 1 < depth
-            && let Some(product) = self.product(from)
-        {
-            return Some(product);
-        }
-        self.leaf(from)
+        self.product(from)
     }
 
     // Reads and works out the expression there, of at most `depth` levels: its word, then its operands in order.
@@ -191,22 +212,31 @@ impl<'a> Evaluation<'a> {
         let file = self.file();
         let head = file.read_head(from, self.shared.len()).ok_or(wrong)?;
         if head.operands == 0 {
-            return self.leaf(from).ok_or(wrong);
+            let leaf = self.leaf(from).ok_or(wrong)?;
+            return Ok(leaf.scanned());
+        }
+        let first = file.past(from);
+        if depth == 1 {
+            // No level is left for its operands: asked here, the loop need not ask it at each.
+            return Err(WrongWord { place: first.at });
         }
         let mut gathered = Scanned {
             value: 0.0,
             in_range: true,
             end: Cursor {
                 next: head.next,
-                ..file.past(from)
+                ..first
             },
         };
+        // Gathered in either arm, so that a number's `in_range` is not asked. A `match`, since a `?` would copy the operand whole.
         for i in 0..head.operands {
-            let operand = match self.shallow(gathered.end, depth - 1) {
-                Some(operand) => operand,
-                None => self.scan_expr(gathered.end, depth - 1)?,
+            gathered = match self.shallow(gathered.end, depth - 1) {
+                Some(number) => gathered.gather(head.kind, i, number.scanned()),
+                None => match self.scan_expr(gathered.end, depth - 1) {
+                    Ok(operand) => gathered.gather(head.kind, i, operand),
+                    Err(wrong) => return Err(wrong),
+                },
             };
-            gathered = gathered.gather(head.kind, i, operand);
         }
         Ok(gathered.finish(head.kind))
     }

@@ -44,21 +44,22 @@ impl TryFrom<u64> for Function {
     }
 }
 
-// What a record of the file shows: the function, and whether its answer is the stored one.
+// What a record of the file shows: the function, if its number is one's, and whether the answer is the stored one.
 struct Tried {
-    function: Function,
+    function: Option<Function>,
     right: bool,
 }
 
 impl Tried {
-    // None where the record is cut short, or its number is no function's. Answers are compared by their bits: a NaN's are one pattern,
-    // in the file too.
+    // None where the record is cut short. Answers are compared by their bits: a NaN's are one pattern, in the file too. A number that is
+    // no function's is compared as the hypotenuse's.
     fn of(record: Record) -> Option<Tried> {
         if record.bytes.len() < RECORD {
             return None;
         }
-        let function = Function::try_from(record.bits(0)).ok()?;
-        let answer = function.at(record.float(1), record.float(2));
+        let function = Function::try_from(record.bits(0)).ok();
+        let called = function.unwrap_or(Function::Hypot);
+        let answer = called.at(record.float(1), record.float(2));
         Some(Tried {
             function,
             right: float::to_bits(answer) == record.bits(3),
@@ -76,17 +77,19 @@ struct Counts {
 }
 
 impl Counts {
-    // One record more. No file is so long that a count stops at the largest number.
+    // One record more: a number that is no function's is wrong, and its answer may be wrong besides. No file is so long that a count stops
+    // at the largest number.
     fn count(&mut self, tried: Option<Tried>) {
         let Some(Tried { function, right }) = tried else {
             self.wrong = self.wrong.saturating_add(1);
             return;
         };
         let calls = match function {
-            Function::Sin => &mut self.sin,
-            Function::Cos => &mut self.cos,
-            Function::Sqrt => &mut self.sqrt,
-            Function::Hypot => &mut self.hypot,
+            Some(Function::Sin) => &mut self.sin,
+            Some(Function::Cos) => &mut self.cos,
+            Some(Function::Sqrt) => &mut self.sqrt,
+            Some(Function::Hypot) => &mut self.hypot,
+            None => &mut self.wrong,
         };
         *calls = calls.saturating_add(1);
         self.wrong = self.wrong.saturating_add(usize::from(!right));

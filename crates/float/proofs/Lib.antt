@@ -5,3 +5,4 @@ pub mod Values
 pub mod Patterns
 pub mod Finite
 pub mod Negated
+pub mod Casts

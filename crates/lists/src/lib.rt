@@ -33,10 +33,13 @@ pub fn point_fault(point: &[f64], columns: usize) -> Result<(), Refusal>
     first_non_finite(point, Reason::Point, 0)
 }
 
-// Writes the list over the front of another.
+// Writes the list over the front of another. Not by `copy_from_slice`, which calls the C library's memmove: an archive for C needs its
+// memcpy and memset alone.
 pub fn copy_front(list: &[f64], to: &mut [f64])
     requires { length list.now ≤ length to.old }
     ensures { to.new ≡ list.now ++ drop (length list.now) to.old }
 {
-    to[..list.len()].copy_from_slice(list);
+    for i in 0..list.len() {
+        to[i] = list[i];
+    }
 }

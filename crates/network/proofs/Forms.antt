@@ -18,7 +18,7 @@ use Rattle.base.specs.Fault.{clear}
 use Rattle.float.specs.Doubles.{Doubles}
 use Rattle.network.specs.Fault.{fault_words, fault_size, fault_count, words_fault, form_fault}
 use Rattle.network.specs.Limits.{generator_numbers, point_numbers, branch_numbers, most_points}
-use Rattle.network.specs.Network.{buses, generators, branches, references, generator_place, branch_place, reference_place, points, referred, branch_at, needed, rated, epigraph_column}
+use Rattle.network.specs.Network.{buses, generators, branches, references, generator_place, branch_place, reference_place, points, referred, branch_at, needed, rated}
 use Rattle.network.specs.Word.{generator_bus, generator_bounded, generator_points, branch_from, branch_to, branch_angled, branch_limited, reference_bus}
 use Rattle.network.specs.declared.layout.Layout.{Layout}
 use Rattle.network.specs.declared.records.Generator.{Generator}
@@ -26,7 +26,7 @@ use Rattle.network.specs.declared.records.Branch.{Branch}
 use Rattle.network.specs.declared.layout.Cursor.{Cursor}
 use Rattle.network.specs.declared.sizes.Sizes.{Sizes}
 use Rattle.network.specs.Layout.{layout_of, branch_at_place, branch_record, LaidWords, Laid}
-use Rattle.network.specs.internal.Records.{SizesOf, generator_at_place, generator_record, Standing, GeneratorRead, BranchRead}
+use Rattle.network.specs.internal.Records.{SizesOf, generator_at_place, generator_with, Standing, BranchRead}
 use Rattle.network.proofs.Places.{words_length, bus_of_generator, no_single_point, from_bus, to_bus, referred_bus, limits}
 use Rattle.network.proofs.Numbers.{generator_zero, generator_next, generator_start, generator_high, generator_fits}
 
@@ -159,19 +159,13 @@ module _ {ws : List ℕ} {xs : List Float} {l : Layout} (L : Laid ws xs l) where
       let r : p ≡ points ws c.index = rw (generator_word L.words c.index) at q in
       rw (S.at, r) (L.generator_fits c.index h, L.words.few_points c.index h)
 
-  pub generator_read : {c : Cursor} {bus p : ℕ} {bounded on : Bool} {epigraph : Option ℕ} {column : ℕ} {r : Generator} → Standing ws l c → column ≡ epigraph_column ws c.index
-      → c.index < l.generators
+  -- the generator at the cursor, with any number as its epigraph column's
+  pub generator_read : {c : Cursor} {bus p : ℕ} {bounded on : Bool} {epigraph : Option ℕ} (column : ℕ) {r : Generator} → Standing ws l c
       → bus ≡ generator_bus (get_or ws (l.generator_words + c.index) 0) → bounded ≡ generator_bounded (get_or ws (l.generator_words + c.index) 0)
       → p ≡ generator_points (get_or ws (l.generator_words + c.index) 0) → on ≡ (l.costs && not (eqb p 0))
-      → epigraph ≡ then_some on column → r ≡ generator_at_place xs c.at bus bounded p epigraph → GeneratorRead ws xs l c.index r
-  generator_read {c} {bus} {p} {bounded} {on} {epigraph} {column} {r} S C h eb ed ep eo ee er =
-      let e : r ≡ generator_record ws xs c.index = er ∙ rw (ee, eo, ep, ed, eb, generator_word L.words c.index, S.at, C, ap (λ x. x.costs) L.words.is) in
-      rw e (record {
-        is = refl;
-        bus = L.words.generator_bus_is c.index h;
-        points = L.words.few_points c.index h;
-        curve = L.generator_fits c.index h;
-      })
+      → epigraph ≡ then_some on column → r ≡ generator_at_place xs c.at bus bounded p epigraph → r ≡ generator_with ws xs c.index column
+  generator_read {c} column S eb ed ep eo ee er =
+      er ∙ rw (ee, eo, ep, ed, eb, generator_word L.words c.index, S.at, ap (λ x. x.costs) L.words.is)
 
   pub branch_read : {b at f t : ℕ} {angled limited : Bool} {r : Branch} → b < l.branches → at ≡ branch_at ws b
       → f ≡ branch_from (get_or ws (l.branch_words + b) 0) → t ≡ branch_to (get_or ws (l.branch_words + b) 0)

@@ -52,19 +52,6 @@ held_next {ws} {kind} {i} {count} H e f g =
     turn true = omega arith
     turn false = omega arith
 
--- the four counts after a word of kind k
-pub counts_next : {ws : List ℕ} {i b g m r : ℕ} (k : ℕ) → Held ws 2 i b × Held ws 3 i g × Held ws 4 i m × Held ws 5 i r → k ≡ kind_of (get_or ws i 0)
-    → Held ws 2 (i + 1) (cond (eqb k 2) (b + 1) b) × Held ws 3 (i + 1) (cond (eqb k 3) (g + 1) g)
-    × Held ws 4 (i + 1) (cond (eqb k 4) (m + 1) m) × Held ws 5 (i + 1) (cond (eqb k 5) (r + 1) r)
-counts_next {ws} {i} k (hb, hg, hm, hr) e = (more 2 hb, more 3 hg, more 4 hm, more 5 hr)
-  where
-    turn : (kind count : ℕ) (b : Bool) → Held ws kind (i + 1) (count + from_bool b) → Held ws kind (i + 1) (cond b (count + 1) count)
-    turn kind count true h = h
-    turn kind count false h = record { few = omega (arith, h.few); is = omega (arith, h.is) }
-
-    more : (kind : ℕ) {count : ℕ} → Held ws kind i count → Held ws kind (i + 1) (cond (eqb k kind) (count + 1) count)
-    more kind {count} h = turn kind count (eqb k kind) (held_next h e refl refl)
-
 -- 1 is a chain of two
 pub words_chain : (ws : List ℕ) → fault_words ws ≡ or_else (unless (not (eqb (length ws) 0)) (fault 1 0)) (first (length ws) (λ i. unless (word_right ws i) (fault 1 i)))
 unfolding fault_words unless or_else

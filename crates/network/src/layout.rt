@@ -1,5 +1,5 @@
-// Where the words and numbers of each kind stand in a network file, and how many numbers a record has: form.rt and records.rt, and the crate
-// tables for a generator's and its curve's, find a record's place by that.
+// Where the words and numbers of each kind stand in a network file, and how many numbers a record has: form.rt and records.rt find a
+// record's place by that. No other crate counts by these lengths, but for tables, which steps from point to point of a curve.
 ghost use Rattle.std.specs.Prelude.{◌≡◌, ◌+◌, ◌*◌, ◌<◌, ◌≤◌};
 ghost use Rattle.network.specs.Limits.{generator_numbers, point_numbers, most_buses, most_generators, most_branches};
 ghost use Rattle.network.specs.Network.{generator_at};

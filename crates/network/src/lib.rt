@@ -12,6 +12,7 @@ mod walk;
 mod word;
 mod words;
 
+pub use base::Refusal;
 pub use form::Form;
 pub use formed::{form_of, tables_of, words_form};
 pub use layout::{

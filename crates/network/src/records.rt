@@ -42,13 +42,22 @@ pub struct Generator {
 }
 
 impl Generator {
-    ghost use Rattle.std.specs.Prelude.{◌≡◌, is_some};
+    ghost use Rattle.std.specs.Prelude.{◌≡◌, ◌-◌, ◌≤◌, is_some};
+    ghost use Rattle.network.specs.Limits.{generator_numbers};
 
     // Whether it has an epigraph column.
     pub fn curved(&self) -> bool
         ensures { result ≡ is_some self.now.epigraph }
     {
         self.epigraph.is_some()
+    }
+
+    // The place of its first number: its own numbers stand before its curve's.
+    pub fn start(&self) -> usize
+        requires { generator_numbers ≤ self.now.curve }
+        ensures { result ≡ self.now.curve - generator_numbers }
+    {
+        self.curve - GENERATOR_NUMBERS
     }
 }
 

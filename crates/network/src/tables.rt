@@ -2,10 +2,13 @@
 ghost use Rattle.network.specs.Layout.{Laid};
 
 use crate::form::Form;
-use crate::layout::Layout;
-use crate::records::{Branch, Bus, branch_at, bus_at};
+use crate::layout::{Cursor, Layout};
+use crate::records::{Branch, Bus, Generator, branch_at, bus_at, generator_at};
 use crate::walk::Generators;
-use crate::word::{branch_angled, branch_from, branch_limited, branch_to, bus_bounded};
+use crate::word::{
+    branch_angled, branch_from, branch_limited, branch_to, bus_bounded, generator_bounded,
+    generator_bus, generator_points,
+};
 
 // Words and numbers that 1 to 3 do not refuse, and where the records stand in them. The words and layout stand here and not in a `Form`, since
 // they are read everywhere as `tables.words` and `tables.layout`: that form is no plainer.
@@ -18,10 +21,10 @@ pub struct Tables<'a> {
 }
 
 impl<'a> Tables<'a> {
-    ghost use Rattle.std.specs.Prelude.{◌≡◌, ◌+◌, ◌<◌, ◌≤◌, length};
-    ghost use Rattle.network.specs.Limits.{bus_numbers, branch_numbers};
+    ghost use Rattle.std.specs.Prelude.{◌≡◌, ◌+◌, ◌*◌, ◌<◌, ◌≤◌, length};
+    ghost use Rattle.network.specs.Limits.{bus_numbers, point_numbers, branch_numbers, most_points};
     ghost use Rattle.network.specs.Network.{referred, bus_at, branch_at};
-    ghost use Rattle.network.specs.internal.Records.{bus_record, BranchRead};
+    ghost use Rattle.network.specs.internal.Records.{Standing, bus_record, generator_with, BranchRead};
 
     // The words with their layout.
     pub fn form(&self) -> Form<'a>
@@ -80,6 +83,28 @@ impl<'a> Tables<'a> {
         ensures { (result ≡ referred self.now.words.now r) × (result < self.now.layout.buses) }
     {
         self.form().reference(r)
+    }
+
+    // The generator at the cursor. The number of its epigraph column is handed in, and used where it has one: that hangs on the curves of
+    // the generators before, which a cursor does not count.
+    pub fn generator_of(&self, cursor: Cursor, epigraph: usize) -> Generator
+        requires { (Standing self.now.words.now self.now.layout cursor) × (cursor.index < self.now.layout.generators) }
+        ensures is { result ≡ generator_with self.now.words.now self.now.numbers.now cursor.index epigraph }
+        ensures bus { result.bus < self.now.layout.buses }
+        ensures points { result.points ≤ most_points }
+        ensures curve { result.curve + point_numbers * result.points ≤ length self.now.numbers.now }
+    {
+        let first = self.layout.generator_words;
+        let w = self.words[first + cursor.index];
+        let points = generator_points(w);
+        generator_at(
+            self.numbers,
+            cursor.at,
+            generator_bus(w),
+            generator_bounded(w),
+            points,
+            self.form().has_epigraph(points).then_some(epigraph),
+        )
     }
 
     // The generators with their numbers, in order.

@@ -5,9 +5,8 @@ ghost use Rattle.network.specs.Network.{epigraph_column};
 ghost use Rattle.network.specs.internal.Records.{Standing, GeneratorStep};
 
 use crate::layout::Cursor;
-use crate::records::{Generator, generator_at};
+use crate::records::Generator;
 use crate::tables::Tables;
-use crate::word::{generator_bounded, generator_bus, generator_points};
 
 // The generators from the one at the cursor on, with the column of the next epigraph: that one's own, where it has one.
 #[derive(Clone, Copy)]
@@ -28,20 +27,7 @@ impl Generators<'_> {
         requires { self.now.cursor.index < self.now.tables.layout.generators }
         ensures { GeneratorRead self.now.tables.words.now self.now.tables.numbers.now self.now.tables.layout self.now.cursor.index result }
     {
-        let first = self.tables.layout.generator_words;
-        let w = self.tables.words[first + self.cursor.index];
-        let points = generator_points(w);
-        generator_at(
-            self.tables.numbers,
-            self.cursor.at,
-            generator_bus(w),
-            generator_bounded(w),
-            points,
-            self.tables
-                .form()
-                .has_epigraph(points)
-                .then_some(self.epigraph),
-        )
+        self.tables.generator_of(self.cursor, self.epigraph)
     }
 }
 

@@ -114,13 +114,12 @@ fn named_by(kind: u32, shared: usize, i: usize) -> usize
 }
 
 impl ModelFile<'_> {
-    // Past the word there.
+    // Past the word there. The addition wraps only at a place where no file has a word, so no word is asked for.
     pub fn past(&self, from: Cursor) -> Cursor
-        requires { from.at < length self.now.words.now }
-        ensures { result ≡ record { at = from.at + 1; next = from.next } }
+        ensures { from.at < length self.now.words.now → result ≡ record { at = from.at + 1; next = from.next } }
     {
         Cursor {
-            at: from.at + 1,
+            at: from.at.wrapping_add(1),
             ..from
         }
     }

@@ -11,6 +11,9 @@ use std::num::NonZeroUsize;
 use std::ops::Range;
 use std::{fs, io};
 
+// The most words, and the most constants, that a file of a record has.
+const MOST: usize = 64;
+
 // The most bytes of data/files that are read.
 const LARGEST: u64 = 65536;
 
@@ -39,7 +42,7 @@ fn values(alloc: Global, record: Record, at: Range<usize>) -> Result<Vec<f64>, A
 }
 
 // Whether number, place and part of a row are those of the record, by the finder and by its forms for C.
-fn finder_right(record: Record, words: &[u32]) -> bool {
+fn row_right(record: Record, words: &[u32]) -> bool {
     let constants = record.number(1);
     let columns = record.number(2);
     let r = record.number(3);
@@ -55,8 +58,20 @@ fn finder_right(record: Record, words: &[u32]) -> bool {
         && words.get(start..start + length) == Some(nl::row(words, constants, columns, r))
 }
 
-// Whether `same` and its form for C answer as the record says.
+// A file of more words than MOST is none of data/files, and is wrong.
+fn finder_right(alloc: Global, record: Record) -> Result<bool, AllocError> {
+    let count = record.number(8);
+    if count > MOST {
+        return Ok(false);
+    }
+    Ok(row_right(record, &words(alloc, record, 9..9 + count)?))
+}
+
+// Whether `same` and its form for C answer as the record says, for lists of at most MOST.
 fn same_right(alloc: Global, record: Record) -> Result<bool, AllocError> {
+    if (2..6usize).any(|i| record.number(i) > MOST) {
+        return Ok(false);
+    }
     let constants_a_at = 6 + record.number(2);
     let words_b_at = constants_a_at + record.number(3);
     let constants_b_at = words_b_at + record.number(4);
@@ -109,14 +124,10 @@ fn bytes_of(record: Record) -> Option<NonZeroUsize> {
     NonZeroUsize::new(4 * size(record))
 }
 
-// A record that is cut short is wrong.
+// Past the data a record's words are 0.
 fn right(alloc: Global, record: Record) -> Result<bool, AllocError> {
-    let size = size(record);
-    if record.bytes.len() / 4 < size {
-        return Ok(false);
-    }
     match Kind::from(record.word(0)) {
-        Kind::Finder => Ok(finder_right(record, &words(alloc, record, 9..size)?)),
+        Kind::Finder => finder_right(alloc, record),
         Kind::Same => same_right(alloc, record),
     }
 }

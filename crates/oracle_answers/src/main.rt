@@ -2,7 +2,7 @@
 // chosen) through compile and the check, and prints how many there are and for how many the answer or a list is another.
 #![tactic(auto)]
 
-ghost use Rattle.std.specs.Prelude.{◌<◌};
+ghost use Rattle.std.specs.Prelude.{◌<◌, ◌≤◌};
 
 use base::Refusal;
 use compile::Compiled;
@@ -11,6 +11,11 @@ use std::alloc::{AllocError, Global};
 use std::num::NonZeroUsize;
 use std::ops::Range;
 use std::{fs, io};
+
+// The most words, and the most numbers, columns or outputs that a record has.
+const WORDS: usize = 32;
+
+const NUMBERS: usize = 256;
 
 // The bytes of a part of the file: no record stands in two of them.
 const PART: usize = 65536;
@@ -60,6 +65,14 @@ impl Cells<'_> {
         self.word(i) as usize
     }
 
+    // A length, in cell i. One above the most that a record has is none of data/answers, and counts as 0.
+    fn length(self, i: usize, most: usize) -> usize
+        ensures { result ≤ most }
+    {
+        let n = self.number(i);
+        if n > most { 0 } else { n }
+    }
+
     fn value(self, i: usize) -> f64 {
         self.record.float(i)
     }
@@ -96,11 +109,11 @@ impl Cells<'_> {
 
 // A record of the check.
 fn point_right(alloc: Global, record: Cells) -> Result<bool, AllocError> {
-    let numbers_at = 19 + record.number(2);
-    let point_at = numbers_at + record.number(3);
-    let tolerances_at = point_at + record.number(4);
-    let outputs_at = tolerances_at + record.number(18);
-    let lent = record.number(5);
+    let numbers_at = 19 + record.length(2, WORDS);
+    let point_at = numbers_at + record.length(3, NUMBERS);
+    let tolerances_at = point_at + record.length(4, NUMBERS);
+    let outputs_at = tolerances_at + record.length(18, NUMBERS);
+    let lent = record.length(5, NUMBERS);
     let mut outputs = vec![in alloc; LENT; lent]?;
     let answer = validate::check(
         &record.words(alloc, 19..numbers_at)?,
@@ -205,8 +218,8 @@ fn compile_right(
 
 // A record of compile.
 fn model_right(alloc: Global, record: Cells) -> Result<bool, AllocError> {
-    let numbers_at = 12 + record.number(2);
-    let lists_at = numbers_at + record.number(3);
+    let numbers_at = 12 + record.length(2, WORDS);
+    let lists_at = numbers_at + record.length(3, NUMBERS);
     let words = record.words(alloc, 12..numbers_at)?;
     let numbers = record.values(alloc, numbers_at..lists_at)?;
     compile_right(alloc, record, lists_at, &words, &numbers)

@@ -7,7 +7,7 @@ ghost use Rattle.tables.specs.Fault.{blanks, fault_blank};
 
 use base::{Reason, Refusal};
 use lists::first_non_finite;
-use network::{GENERATOR_NUMBERS, Generator, POINT_NUMBERS, Tables};
+use network::{Generator, POINT_NUMBERS, Tables};
 
 // `count` numbers from `at` on.
 fn blanks(numbers: &[f64], at: usize, count: usize) -> Result<(), Refusal>
@@ -29,13 +29,13 @@ fn blank_buses(tables: &Tables) -> Result<(), Refusal>
 
 // q, c, c0 and the curve of a generator.
 // piecewise_cost's Curve is not below this crate, and would be taken apart again: the numbers are looked at from a place on, which the
-// refusal names. So q's place is counted back from the curve's, and q, c and c0 are not taken from the record.
+// refusal names. So q's place is counted from the generator's first number, and q, c and c0 are not taken from the record.
 fn blank_generator(numbers: &[f64], generator: Generator) -> Result<(), Refusal>
     requires { (generator_numbers ≤ generator.curve) × (generator.curve + point_numbers * generator.points ≤ length numbers.now) }
     ensures { fault_of result ≡ or_else (blanks numbers.now (generator.curve - generator_numbers + 4) 3)
         (blanks numbers.now generator.curve (point_numbers * generator.points)) }
 {
-    blanks(numbers, generator.curve - GENERATOR_NUMBERS + 4, 3)?;
+    blanks(numbers, generator.start() + 4, 3)?;
     blanks(numbers, generator.curve, POINT_NUMBERS * generator.points)
 }
 

@@ -10,10 +10,22 @@ use model_reading::{Counts, row_counts};
 use nl::ModelFile;
 use row_values::{RowValues, row_values};
 use std::alloc::{AllocError, Global};
+use std::io::Read;
 use std::num::NonZeroUsize;
 use std::{fs, io};
 
-// What the lists hold that are lent.
+// The most bytes of data/cases that are read.
+const LARGEST: u64 = 65536;
+
+// The most words, and the most constants or columns, that a case's file has: a longer list is none of data/cases, and counts as empty.
+const WORDS: u32 = 8768;
+
+const NUMBERS: u32 = 64;
+
+// The length of the two lists of which a front part is lent.
+const ROOM: usize = 4416;
+
+// What they hold.
 const LENT: f64 = 5.0;
 
 // The record from word i on.
@@ -78,14 +90,30 @@ impl<'a> List<'a> {
         self.stored.bits(self.place(k, 1).0)
     }
 
+    // Its length, or 0 where that is above the most.
+    fn length_within(self, most: u32) -> u32 {
+        if self.length > most { 0 } else { self.length }
+    }
+
     fn words(self, alloc: Global) -> Result<Vec<u32>, AllocError> {
-        (0..self.length).map(|k| self.word(k)).collect(alloc)
+        (0..self.length_within(WORDS))
+            .map(|k| self.word(k))
+            .collect(alloc)
     }
 
     fn values(self, alloc: Global) -> Result<Vec<f64>, AllocError> {
-        (0..self.length)
+        (0..self.length_within(NUMBERS))
             .map(|k| float::from_bits(self.bits(k)))
             .collect(alloc)
+    }
+
+    // Whether the list has its values in front, as far as it reaches, and is as it was lent behind them.
+    fn in_front(self, alloc: Global, list: &[f64]) -> Result<bool, AllocError> {
+        let stored: Vec<u64> = (0..self.length)
+            .take(list.len())
+            .map(|k| self.bits(k))
+            .collect(alloc)?;
+        Ok(has_front(list, &stored, LENT))
     }
 }
 
@@ -104,25 +132,34 @@ fn rows(case: Record) -> Option<List> {
     (case.word(8) & 4 != 0).then(|| List::of(case, 15))
 }
 
-// Whether the list is the one that the case says, if it says one.
-fn list_right(alloc: Global, said: Option<List>, list: &[f64]) -> Result<bool, AllocError> {
-    let Some(said) = said else {
-        return Ok(true);
-    };
-    let stored: Vec<u64> = (0..said.length).map(|k| said.bits(k)).collect(alloc)?;
-    Ok(has_front(list, &stored, LENT))
+// Both lists, whole, where the case says them: what was lent, and what lies behind it.
+fn lists_right(
+    alloc: Global,
+    case: Record,
+    shared_list: &[f64],
+    row_list: &[f64],
+) -> Result<bool, AllocError> {
+    Ok(
+        shared(case).map_or(Ok(true), |list| list.in_front(alloc, shared_list))?
+            && rows(case).map_or(Ok(true), |list| list.in_front(alloc, row_list))?,
+    )
 }
 
-// The objective, where the case says it, and the counts of what is written.
-fn values_right(case: Record, values: RowValues) -> bool {
-    objective(case).map_or(true, |bits| float::to_bits(values.objective) == bits)
-        && values.shared == case.number(9)
-        && values.rows == case.number(10)
+// The objective, where the case says it, 0 after a refusal.
+fn objective_right(case: Record, answer: Result<RowValues, Refusal>) -> bool {
+    let worked_out = answer.map_or(0.0, |values| values.objective);
+    objective(case).map_or(true, |bits| float::to_bits(worked_out) == bits)
+}
+
+// The counts of what is written.
+fn written_right(case: Record, values: RowValues) -> bool {
+    values.shared == case.number(9) && values.rows == case.number(10)
 }
 
 fn answer_right(case: Record, answer: Result<RowValues, Refusal>) -> bool {
     base::shown(answer) == (case.word(4), case.number(5))
-        && answer.map_or(true, |values| values_right(case, values))
+        && objective_right(case, answer)
+        && answer.map_or(true, |values| written_right(case, values))
 }
 
 // The counts of a file: 17 and 2 alone refuse them.
@@ -140,36 +177,52 @@ fn counts_right(case: Record, answer: Result<Counts, Refusal>) -> bool {
         && counts.rows == case.number(10)
 }
 
+// Row values into two lists of which a front part is lent. There is no room for a longer one: it is none of data/cases, and is wrong.
+fn values_right(
+    alloc: Global,
+    case: Record,
+    words: &[u32],
+    constants: &[f64],
+    point: &[f64],
+) -> Result<bool, AllocError> {
+    let mut shared_list = vec![in alloc; LENT; ROOM]?;
+    let mut row_list = vec![in alloc; LENT; ROOM]?;
+    let lent_shared = case.number(2);
+    let lent_rows = case.number(3);
+    if lent_shared > ROOM || lent_rows > ROOM {
+        return Ok(false);
+    }
+    let answer = row_values(
+        words,
+        constants,
+        case.number(1),
+        point,
+        &mut shared_list[..lent_shared],
+        &mut row_list[..lent_rows],
+    );
+    Ok(answer_right(case, answer) && lists_right(alloc, case, &shared_list, &row_list)?)
+}
+
 fn right(alloc: Global, case: Record) -> Result<bool, AllocError> {
     let words = List::of(case, 11).words(alloc)?;
     let constants = List::of(case, 12).values(alloc)?;
     let point = List::of(case, 13).values(alloc)?;
-    let mut shared_list = vec![in alloc; LENT; case.number(2)]?;
-    let mut row_list = vec![in alloc; LENT; case.number(3)]?;
     let file = ModelFile {
         words: &words,
         constants: constants.len(),
         columns: case.number(1),
     };
-    let counts = row_counts(&file);
-    let answer = row_values(
-        &words,
-        &constants,
-        case.number(1),
-        &point,
-        &mut shared_list,
-        &mut row_list,
-    );
     Ok(
-        counts_right(case, counts)
-            && answer_right(case, answer)
-            && list_right(alloc, shared(case), &shared_list)?
-            && list_right(alloc, rows(case), &row_list)?,
+        counts_right(case, row_counts(&file))
+            && values_right(alloc, case, &words, &constants, &point)?,
     )
 }
 
 fn main(rt: HostRuntime) -> io::Result<()> {
-    let bytes = fs::read(&rt, "cases")?;
+    let mut bytes = Vec::new(rt.alloc());
+    fs::open(&rt, "cases")?
+        .take(LARGEST)
+        .read_to_end(&mut bytes)?;
     // Three programs end in these lines: little_endian, which they share, has no heap.
     let answers: Vec<bool> = Records {
         bytes: bytes.as_slice(),

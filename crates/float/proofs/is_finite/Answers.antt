@@ -1,4 +1,5 @@
-use Rattle.std.proofs.Common.{◌≡◌, refl, ◌∙◌}
+use Rattle.std.proofs.Common.{◌≡◌, refl, ◌∙◌, arith}
+use Rattle.std.proofs.lemmas.Grind.{common_steps}
 use lib.Ieee.{Float, nan, inf, fin}
 use Rattle.std.specs.Float.{float_is_finite}
 use Rattle.float.specs.Number.{is_finite}
@@ -11,4 +12,4 @@ same (inf s) = refl
 same (fin s m e) = refl
 
 pub returns : goal.returns
-returns c = c.is_finite.ensures.value ∙ same c.args.x
+returns c = let e = c.is_finite.ensures.value ∙ same c.args.x in grind (arith, common_steps)

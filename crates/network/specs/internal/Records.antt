@@ -54,6 +54,11 @@ epigraph_of ws g = then_some (curved ws g) (epigraph_column ws g)
 abbrev pub generator_record : List ℕ → List Float → ℕ → Generator
 generator_record ws xs g = generator_at_place xs (generator_at ws g) (bus_of ws g) (capable ws g) (points ws g) (epigraph_of ws g)
 
+-- the same, with `column` as the number of its epigraph column, where it has one
+abbrev pub generator_with : List ℕ → List Float → ℕ → ℕ → Generator
+generator_with ws xs g column =
+    generator_at_place xs (generator_at ws g) (bus_of ws g) (capable ws g) (points ws g) (then_some (curved ws g) column)
+
 -- these are how many words of each kind there are
 pub record SizesOf (ws : List ℕ) (s : Sizes) : Type 0 where
   pub buses : s.buses ≡ buses ws

@@ -16,17 +16,17 @@ load_is c = c.load_of-load.ensures ∙ ap load_of (c.in_ok-word.ensures.lookup.3
 pub returns-then-kind-number : goal.returns-then-kind-number
 returns-then-kind-number c =
     let d = (goal.at.returns-then-kind-number c).After-kind_of-kind in
-    column_scans _ _ _ _ _ _ _ _ c.in_ok-word.ensures.lookup.3.0 (kind_is d) (load_is d) _ (c.if-kind-number.true ∙ c.number.ensures) c.number-then-kind-number.ensures
+    column_scans _ _ _ _ _ _ _ _ c.in_ok-word.ensures.lookup.3.0 (kind_is d) (load_is d) _ (c.if-kind-number.true ∙ c.number.ensures) c.listed.ensures
 
 pub returns-then-kind-number-2 : goal.returns-then-kind-number-2
 returns-then-kind-number-2 c =
     let d = (goal.at.returns-then-kind-number-2 c).After-kind_of-kind in
-    shared_scans _ _ _ _ _ _ _ _ c.in_ok-word.ensures.lookup.3.0 (kind_is d) (load_is d) _ (c.if-kind-number-2.true ∙ c.number-2.ensures) c.number-then-kind-number-2.ensures
+    shared_scans _ _ _ _ _ _ _ _ c.in_ok-word.ensures.lookup.3.0 (kind_is d) (load_is d) _ (c.if-kind-number-2.true ∙ c.number-2.ensures) c.listed-then-kind-number-2.ensures
 
 pub returns-then-load-from : goal.returns-then-load-from
 returns-then-load-from c =
     let d = (goal.at.returns-then-load-from c).After-kind_of-kind in
-    constant_scans _ _ _ _ _ _ _ _ c.in_ok-word.ensures.lookup.3.0 (kind_is d) (load_is d) _ (c.if-kind-number-3.true ∙ c.number-3.ensures) c.if-load-from.true c.number-then-load-from.ensures
+    constant_scans _ _ _ _ _ _ _ _ c.in_ok-word.ensures.lookup.3.0 (kind_is d) (load_is d) _ (c.if-kind-number-3.true ∙ c.number-3.ensures) c.if-load-from.true c.listed-then-load-from.ensures
 
 pub returns : goal.returns
 returns c =

@@ -11,8 +11,8 @@ use Rattle.expression.proofs.Evaluation.product.Goals.{After-is_word, Else-not-i
 stands : (c : Else-not-is_word) → is_mark c.args.self.now.words.now 5 0 c.args.from.at ≡ true
 stands c = rw (c.file-file.ensures.0, c.number.ensures) at (sym c.is_word.ensures ∙ c.if-not-is_word.false)
 
-pub past-requires : goal.past-requires
-past-requires c = rw c.file-file.ensures.0 (marked _ _ _ _ (stands (goal.at.past-requires c).Else-not-is_word)).0
-
 pub returns : goal.returns
-returns c = λ d. a_product _ _ _ _ d _ _ _ _ (stands (goal.at.returns c).Else-not-is_word) (rw c.past.ensures at (c.in_ok-a.ensures d)) (c.in_ok-b.ensures d)
+returns c =
+    let mark = stands (goal.at.returns c).Else-not-is_word in
+    let past = c.past.ensures (rw c.file-file.ensures.0 (marked _ _ _ _ mark).0) in
+    λ d. a_product _ _ _ _ d _ _ _ _ mark (rw past at (c.in_ok-a.ensures d)) (c.in_ok-b.ensures d)

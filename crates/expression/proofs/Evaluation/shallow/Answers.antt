@@ -1,9 +1,11 @@
 -- `expression::Evaluation::shallow` meets its contract.
+use native.Mathlib.Omega.{arith}
+use Rattle.std.specs.Prelude.{Some}
 use Rattle.expression.proofs.Scans.{one_level, two_levels}
 use Rattle.expression.proofs.Evaluation.shallow.Goals as goal
 
-pub returns : goal.returns
-returns c = two_levels _ _ _ _ _ _ _ _ c.if-depth-gt1.true c.in-Some.ensures
+pub returns-in-Some : goal.returns-in-Some
+returns-in-Some c = one_level _ _ _ _ _ _ _ (Some c.in-Some.leaf) (λ z. omega arith) c.in-Some.ensures
 
-pub returns-2 : goal.returns-2
-returns-2 c = one_level _ _ _ _ _ _ _ _ c.if-depth-eq0.false c.leaf.ensures
+pub returns : goal.returns
+returns c = two_levels _ _ _ _ _ _ _ _ (λ z. omega arith) c.if-depth-eq1.false c.product.ensures

@@ -4,9 +4,9 @@ use Rattle.tables.proofs.blank.blank_generator.Goals as goal
 
 pub returns-in_err-blanks : goal.returns-in_err-blanks
 returns-in_err-blanks c =
-    link_exit _ _ _ _ _ c.from_residual.ensures.1 refl c.in_err-blanks.ensures
+    link_exit _ _ _ _ _ c.from_residual.ensures.1 refl (rw c.start.ensures at c.in_err-blanks.ensures)
 
 pub returns : goal.returns
 returns c =
-    let w1 = link_ok _ _ _ refl c.in_ok-blanks.ensures in
+    let w1 = link_ok _ _ _ refl (rw c.start.ensures at c.in_ok-blanks.ensures) in
     c.blanks-2.ensures ∙ sym w1

@@ -13,13 +13,10 @@ returns-then-depth-eq0 t c = sym (no_depth _ _ _ _ _ _ _ c.if-depth-eq0.true)
 pub returns-in_err-head : goal.returns-in_err-head
 returns-in_err-head t c = grind (arith, common_steps, head_refused)
 
-pub past-requires : goal.past-requires
-past-requires t c =
-    let e : c.read_head.result ≡ Some c.in_ok-head.head = grind arith in
-    head_inside _ _ _ _ _ _ _ _ c.read_head.ensures e
-
 pub loop-init : goal.loop-init
-loop-init t c = rw (ap (λ (p : Cursor). p.at) c.past.ensures) (head_open _ _ _ _ _ _ _ _ c.in_ok-head.head c.if-depth-eq0.false c.read_head.ensures (grind arith))
+loop-init t c =
+    let e : c.read_head.result ≡ Some c.in_ok-head.head = grind arith in
+    rw (ap (λ (p : Cursor). p.at) (c.past.ensures (head_inside _ _ _ _ _ _ _ _ c.read_head.ensures e))) (head_open _ _ _ _ _ _ _ _ c.in_ok-head.head c.if-depth-eq0.false c.read_head.ensures (grind arith))
 
 pub loop-preserved : goal.loop-preserved
 loop-preserved t c = one_more_is _ _ _ _ _ _ _ _ _ c.loop-test.true c.loop.invariant c.read_expr.ensures c.in_ok-here.was

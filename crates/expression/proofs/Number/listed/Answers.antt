@@ -1,7 +1,7 @@
--- `expression::Scanned::number` meets its contract.
+-- `expression::Number::listed` meets its contract.
 use lib.Ieee.{nan, binary64, to_bits, of_bits}
 use lib.Ieee.Bits.{of_bits-to_bits}
-use Rattle.expression.proofs.Scanned.number.Goals as goal
+use Rattle.expression.proofs.Number.listed.Goals as goal
 
 pub returns : goal.returns
 unfolding to_bits of_bits
