@@ -185,13 +185,13 @@ fn values_right(
     constants: &[f64],
     point: &[f64],
 ) -> Result<bool, AllocError> {
-    let mut shared_list = vec![in alloc; LENT; ROOM]?;
-    let mut row_list = vec![in alloc; LENT; ROOM]?;
     let lent_shared = case.number(2);
     let lent_rows = case.number(3);
     if lent_shared > ROOM || lent_rows > ROOM {
         return Ok(false);
     }
+    let mut shared_list = vec![in alloc; LENT; ROOM]?;
+    let mut row_list = vec![in alloc; LENT; ROOM]?;
     let answer = row_values(
         words,
         constants,
